@@ -1,0 +1,9 @@
+pub mod RowsLead
+pub mod FirstClash
+pub mod RowsOfHistory
+pub mod Runs
+pub mod Follow
+pub mod RowsWhole
+pub mod Step
+pub mod Turns
+pub mod Whole

@@ -1,0 +1,86 @@
+-- One call of any kind, put to a check: the reply, and what it leaves.
+use mathlib.Core.Bool.{Bool}
+use mathlib.Core.List.{List}
+use Prim.Native.Nat.{ℕ}
+use lib.ListN.{length}
+use Rattle.std.specs.declared.result.Result.{Result}
+use Rattle.std.specs.declared.result.Result.the-variants.{Ok, Err}
+use Rattle.graph.specs.History.{innermost-task}
+use Rattle.orderings.specs.declared.words.Fault.{Fault}
+use Rattle.orderings.specs.declared.words.Kind.the-variants.{Task, Finish}
+use Rattle.orderings.specs.declared.words.Word.{Word}
+use Rattle.orderings.specs.Meaning.{Meaning, opening, after-open, closing, after-close, asked, kind-at}
+use Rattle.rows.specs.declared.row.Row.{Row}
+use Rattle.rows.specs.declared.words.Finding.{Finding}
+use Rattle.check.specs.declared.state.Check.{Check}
+use Rattle.check.specs.declared.words.Call.{Call}
+use Rattle.check.specs.declared.words.Call.the-variants.{OpenTask, OpenFinish, Close, Access, Ask, InnermostTask, OpenCount, KindOf, ScopesBegun, NumbersLeft}
+use Rattle.check.specs.declared.words.Refusal.{Refusal}
+use Rattle.check.specs.declared.words.Refusal.the-variants.{Order}
+use Rattle.check.specs.declared.words.Reply.{Reply}
+use Rattle.check.specs.declared.words.Reply.the-variants.{Opened, Closed, Found, Said, Number, OfKind, Refused}
+use Rattle.check.specs.Calls.{View, view, limited, from-order, when-room, one-more, access-answer, one-access, access-rows}
+
+-- the check, what the ordering means, and the rows
+pub record Store : Type 0 where
+  pub check : View
+  pub meaning : Meaning
+  pub rows : List Row
+
+abbrev pub store : Check → Meaning → List Row → Store
+store k m rows = record { check = view k; meaning = m; rows = rows }
+
+abbrev pub open-told : Result ℕ Refusal → Reply
+open-told (Ok n) = Opened n
+open-told (Err e) = Refused e
+
+abbrev pub close-told : Result ℕ Refusal → Reply
+close-told (Ok n) = Closed n
+close-told (Err e) = Refused e
+
+abbrev pub access-told : Result Finding Refusal → Reply
+access-told (Ok f) = Found f
+access-told (Err e) = Refused e
+
+abbrev pub word-told : Result Word Fault → Reply
+word-told (Ok w) = Said w
+word-told (Err e) = Refused (Order e)
+
+abbrev pub open-answer : Store → Result ℕ Refusal
+open-answer σ = limited (σ .check) (from-order (opening (σ .meaning)))
+
+abbrev pub close-answer : Store → Result ℕ Refusal
+close-answer σ = limited (σ .check) (from-order (closing (σ .meaning)))
+
+module _ (known : ℕ → Bool) (clash : ℕ → ℕ → Bool) (σ : Store) where
+  abbrev pub told : Call → Reply
+  told OpenTask = open-told (open-answer σ)
+  told OpenFinish = open-told (open-answer σ)
+  told Close = close-told (close-answer σ)
+  told (Access c r) = access-told (access-answer known clash (σ .check) (σ .meaning) (σ .rows) c r)
+  told (Ask t) = word-told (asked (σ .meaning .begun) t)
+  told InnermostTask = Number (innermost-task (σ .meaning .opened))
+  told OpenCount = Number (length (σ .meaning .opened))
+  told (KindOf n) = OfKind (kind-at (σ .meaning .begun) n)
+  told ScopesBegun = Number (length (σ .meaning .begun))
+  told NumbersLeft = Number (σ .meaning .left)
+
+  -- after an open or a close that was answered so, where the ordering would leave m
+  abbrev pub after-event : Result ℕ Refusal → Meaning → Store
+  after-event answer m = record { check = one-more (σ .check) answer; meaning = when-room (σ .check) (σ .meaning) m; rows = σ .rows }
+
+  abbrev pub after-access : ℕ → ℕ → Result Finding Refusal → Store
+  after-access c r answer = record { check = one-access (σ .check) answer; meaning = σ .meaning; rows = access-rows (σ .check) (σ .meaning) (σ .rows) c r answer }
+
+  -- questions change nothing
+  abbrev pub left-by : Call → Store
+  left-by OpenTask = after-event (open-answer σ) (after-open Task (σ .meaning))
+  left-by OpenFinish = after-event (open-answer σ) (after-open Finish (σ .meaning))
+  left-by Close = after-event (close-answer σ) (after-close (σ .meaning))
+  left-by (Access c r) = after-access c r (access-answer known clash (σ .check) (σ .meaning) (σ .rows) c r)
+  left-by (Ask t) = σ
+  left-by InnermostTask = σ
+  left-by OpenCount = σ
+  left-by (KindOf n) = σ
+  left-by ScopesBegun = σ
+  left-by NumbersLeft = σ

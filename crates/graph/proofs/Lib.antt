@@ -1,0 +1,10 @@
+pub mod ReadsAlike
+pub mod OpenScopes
+pub mod PathsRise
+pub mod SwappedOrders
+pub mod Places
+pub mod LeadersDecide
+pub mod Arrows
+pub mod WordsArePaths
+pub mod LeadersFind
+pub mod Exchange

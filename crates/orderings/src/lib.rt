@@ -1,0 +1,9 @@
+//! Orderings: which tasks of a plan are surely over before the next access, and which may still run beside it.
+mod ordering;
+mod words;
+
+pub use ordering::Ordering;
+pub use words::Code;
+pub use words::Fault;
+pub use words::Kind;
+pub use words::Word;

@@ -1,0 +1,26 @@
+use borrow.Author.Needs.{needs}
+use borrow.Author.Tests.{eq-eqb, ne-eqb}
+use mathlib.Core.Path.{_≡_, _∙_, sym}
+use Prim.Native.Nat.{_≤_}
+use native.Mathlib.Omega.{arith}
+use lib.ListN.{length}
+use Rattle.rows.specs.Slots.{holds-class}
+use Rattle.rows.proofs.Filled.{one-on, at-end}
+use Rattle.rows.proofs.row.Row.holds_from.Needs as need
+
+pub returns-then-slot-class : need.returns-then-slot-class
+returns-then-slot-class c =
+    let n : c .args .self .now .count ≤ length (c .args .self .now .slots) = search needs in
+    let e = one-on (λ ss. holds-class (c .args .«class») ss) (c .args .self .now .slots) (c .args .self .now .count) (c .loop-i .i) (c .loop-i-test .taken) n in
+    let t = eq-eqb _ _ (c .if-slot-class .taken) in
+    sym (c .loop-i .inv ∙ rw t at e)
+
+pub loop-i-again : need.loop-i-again
+loop-i-again c =
+    let n : c .args .self .now .count ≤ length (c .args .self .now .slots) = search needs in
+    let e = one-on (λ ss. holds-class (c .args .«class») ss) (c .args .self .now .slots) (c .args .self .now .count) (c .loop-i .i) (c .loop-i-test .taken) n in
+    let t = ne-eqb _ _ (c .if-slot-class .left) in
+    c .loop-i .inv ∙ rw t at e
+
+pub returns : need.returns
+returns c = sym (c .loop-i .inv ∙ at-end (λ ss. holds-class (c .args .«class») ss) (c .args .self .now .slots) (c .args .self .now .count) (c .loop-i .i) (omega arith))
