@@ -11,15 +11,13 @@ use Rattle.orderings.specs.declared.words.Fault.{Fault}
 use Rattle.orderings.specs.Meaning.{Meaning}
 use Rattle.rows.specs.declared.row.Row.{Row}
 use Rattle.rows.specs.declared.words.Finding.{Finding}
+use Rattle.rows.specs.declared.words.Finding.the-variants.{Clear, Clash}
 use Rattle.rows.specs.declared.words.RowFault.{RowFault}
 use Rattle.rows.specs.Rows.{no-row, zero-row, row-answer, row-after}
 use Rattle.check.specs.declared.state.Check.{Check}
 use Rattle.check.specs.declared.words.Counts.{Counts}
-use Rattle.check.specs.declared.words.Ending.{Ending}
-use Rattle.check.specs.declared.words.Ending.the-variants.{Verdict, GivenUp}
 use Rattle.check.specs.declared.words.Refusal.{Refusal}
 use Rattle.check.specs.declared.words.Refusal.the-variants.{BadStart, AlreadyBegun, LimitReached, NoSuchRecord, UnknownClass, ScopeOpen, Row as RowRefuses, Order}
-use Rattle.check.specs.Replies.{one-clash}
 
 -- what a check holds, without its invariant
 pub record View : Type 0 where
@@ -85,6 +83,11 @@ access-answer known clash k m rows c r =
     (cond (known c) (from-row (row-answer known clash m (k .events) c (getD rows r no-row))) (Err UnknownClass))
     (Err NoSuchRecord))
 
+-- one more where the access found a clash
+abbrev pub one-clash : Finding → ℕ → ℕ
+one-clash Clear n = n
+one-clash (Clash p) n = n + 1
+
 abbrev pub one-access : View → Result Finding Refusal → View
 one-access k (Ok f) = record { limit = k .limit; events = k .events + 1; accesses = k .accesses + 1; clashes = one-clash f (k .clashes) }
 one-access k (Err e) = k
@@ -100,7 +103,3 @@ counted k scopes = record { accesses = k .accesses; clashes = k .clashes; scopes
 
 abbrev pub verdict-answer : Check → Meaning → Result Counts (Refusal × Check)
 verdict-answer k m = cond (eqb (length (m .opened)) 1) (Ok (counted (view k) (length (m .begun)))) (Err (ScopeOpen, k))
-
-abbrev pub end-answer : View → Meaning → Ending
-end-answer k m =
-    cond (eqb (length (m .opened)) 1) (Verdict (counted k (length (m .begun)))) (GivenUp (counted k (length (m .begun))))

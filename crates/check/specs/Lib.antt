@@ -1,9 +1,3 @@
 pub mod Numbers
-pub mod Leaders
-pub mod Replies
-pub mod Theorem
 pub mod Calls
 pub mod Puts
-pub mod State
-pub mod Conversation
-pub mod Worked

@@ -55,7 +55,8 @@ fn by_row(answer: Result<Finding, RowFault>) -> Result<Finding, Refusal>
 impl Check {
     /// Begins a check on an ordering that has begun nothing but main, and fills the rows with zeros.
     pub fn start<O: Ordering>(ordering: &O, rows: &mut [Row], limit: u32) -> Result<Check, Refusal>
-        ensures answer { λ r. ⌜ (O·Ordering .sound (now (ordering .entry)) → seen r ≡ start-answer (length (now (rows .entry))) limit (length (O·Ordering .meaning (now (ordering .entry)) .begun))) ⌝ }
+        ensures answer { λ r. ⌜ (O·Ordering .sound (now (ordering .entry)) →
+            seen r ≡ start-answer (length (now (rows .entry))) limit (length (O·Ordering .meaning (now (ordering .entry)) .begun))) ⌝ }
         ensures rows { λ r. ⌜ now (rows .exit) ≡ start-rows r (now (rows .entry)) ⌝ }
     {
         if rows.len() < 1 || rows.len() > 65536 || limit < 1 || limit > 1000000 {
@@ -74,10 +75,14 @@ impl Check {
     }
 
     pub fn open_task<O: Ordering>(&mut self, ordering: &mut O) -> Result<u32, Refusal>
-        ensures answer { λ r. ⌜ (O·Ordering .sound (now (ordering .entry)) → r ≡ limited (view (now (self .entry))) (from-order (opening (O·Ordering .meaning (now (ordering .entry)))))) ⌝ }
+        ensures answer { λ r. ⌜ (O·Ordering .sound (now (ordering .entry)) →
+            r ≡ limited (view (now (self .entry))) (from-order (opening (O·Ordering .meaning (now (ordering .entry)))))) ⌝ }
         ensures check { λ r. ⌜ view (now (self .exit)) ≡ one-more (view (now (self .entry))) r ⌝ }
         ensures kept { λ _. ⌜ (O·Ordering .sound (now (ordering .entry)) → O·Ordering .sound (now (ordering .exit))) ⌝ }
-        ensures after { λ _. ⌜ (O·Ordering .sound (now (ordering .entry)) → O·Ordering .meaning (now (ordering .exit)) ≡ when-room (view (now (self .entry))) (O·Ordering .meaning (now (ordering .entry))) (after-open Task (O·Ordering .meaning (now (ordering .entry))))) ⌝ }
+        ensures after { λ _. ⌜ (O·Ordering .sound (now (ordering .entry)) →
+            O·Ordering .meaning (now (ordering .exit)) ≡
+            when-room (view (now (self .entry))) (O·Ordering .meaning (now (ordering .entry)))
+            (after-open Task (O·Ordering .meaning (now (ordering .entry))))) ⌝ }
         ensures refused { λ r. ⌜ ((e : Refusal) → r ≡ Err e → now (ordering .exit) ≡ now (ordering .entry)) ⌝ }
     {
         if !self.has_room() {
@@ -89,10 +94,14 @@ impl Check {
     }
 
     pub fn open_finish<O: Ordering>(&mut self, ordering: &mut O) -> Result<u32, Refusal>
-        ensures answer { λ r. ⌜ (O·Ordering .sound (now (ordering .entry)) → r ≡ limited (view (now (self .entry))) (from-order (opening (O·Ordering .meaning (now (ordering .entry)))))) ⌝ }
+        ensures answer { λ r. ⌜ (O·Ordering .sound (now (ordering .entry)) →
+            r ≡ limited (view (now (self .entry))) (from-order (opening (O·Ordering .meaning (now (ordering .entry)))))) ⌝ }
         ensures check { λ r. ⌜ view (now (self .exit)) ≡ one-more (view (now (self .entry))) r ⌝ }
         ensures kept { λ _. ⌜ (O·Ordering .sound (now (ordering .entry)) → O·Ordering .sound (now (ordering .exit))) ⌝ }
-        ensures after { λ _. ⌜ (O·Ordering .sound (now (ordering .entry)) → O·Ordering .meaning (now (ordering .exit)) ≡ when-room (view (now (self .entry))) (O·Ordering .meaning (now (ordering .entry))) (after-open Finish (O·Ordering .meaning (now (ordering .entry))))) ⌝ }
+        ensures after { λ _. ⌜ (O·Ordering .sound (now (ordering .entry)) →
+            O·Ordering .meaning (now (ordering .exit)) ≡
+            when-room (view (now (self .entry))) (O·Ordering .meaning (now (ordering .entry)))
+            (after-open Finish (O·Ordering .meaning (now (ordering .entry))))) ⌝ }
         ensures refused { λ r. ⌜ ((e : Refusal) → r ≡ Err e → now (ordering .exit) ≡ now (ordering .entry)) ⌝ }
     {
         if !self.has_room() {
@@ -104,10 +113,14 @@ impl Check {
     }
 
     pub fn close<O: Ordering>(&mut self, ordering: &mut O) -> Result<u32, Refusal>
-        ensures answer { λ r. ⌜ (O·Ordering .sound (now (ordering .entry)) → r ≡ limited (view (now (self .entry))) (from-order (closing (O·Ordering .meaning (now (ordering .entry)))))) ⌝ }
+        ensures answer { λ r. ⌜ (O·Ordering .sound (now (ordering .entry)) →
+            r ≡ limited (view (now (self .entry))) (from-order (closing (O·Ordering .meaning (now (ordering .entry)))))) ⌝ }
         ensures check { λ r. ⌜ view (now (self .exit)) ≡ one-more (view (now (self .entry))) r ⌝ }
         ensures kept { λ _. ⌜ (O·Ordering .sound (now (ordering .entry)) → O·Ordering .sound (now (ordering .exit))) ⌝ }
-        ensures after { λ _. ⌜ (O·Ordering .sound (now (ordering .entry)) → O·Ordering .meaning (now (ordering .exit)) ≡ when-room (view (now (self .entry))) (O·Ordering .meaning (now (ordering .entry))) (after-close (O·Ordering .meaning (now (ordering .entry))))) ⌝ }
+        ensures after { λ _. ⌜ (O·Ordering .sound (now (ordering .entry)) →
+            O·Ordering .meaning (now (ordering .exit)) ≡
+            when-room (view (now (self .entry))) (O·Ordering .meaning (now (ordering .entry)))
+            (after-close (O·Ordering .meaning (now (ordering .entry))))) ⌝ }
         ensures refused { λ r. ⌜ ((e : Refusal) → r ≡ Err e → now (ordering .exit) ≡ now (ordering .entry)) ⌝ }
     {
         if !self.has_room() {
@@ -158,11 +171,19 @@ impl Check {
         class: u32,
         record: u32,
     ) -> Result<Finding, Refusal>
-        ensures answer { λ r. ⌜ (O·Ordering .sound (now (ordering .entry)) → r ≡ access-answer (R·ClashRule .known (now (rule .entry))) (R·ClashRule .clash (now (rule .entry))) (view (now (self .entry))) (O·Ordering .meaning (now (ordering .entry))) (now (rows .entry)) «class» «record») ⌝ }
+        ensures answer { λ r. ⌜ (O·Ordering .sound (now (ordering .entry)) →
+            r ≡
+            access-answer (R·ClashRule .known (now (rule .entry))) (R·ClashRule .clash (now (rule .entry)))
+            (view (now (self .entry))) (O·Ordering .meaning (now (ordering .entry))) (now (rows .entry)) «class»
+            «record») ⌝ }
         ensures check { λ r. ⌜ view (now (self .exit)) ≡ one-access (view (now (self .entry))) r ⌝ }
         ensures kept { λ _. ⌜ (O·Ordering .sound (now (ordering .entry)) → O·Ordering .sound (now (ordering .exit))) ⌝ }
-        ensures same { λ _. ⌜ (O·Ordering .sound (now (ordering .entry)) → O·Ordering .meaning (now (ordering .exit)) ≡ O·Ordering .meaning (now (ordering .entry))) ⌝ }
-        ensures rows { λ r. ⌜ (O·Ordering .sound (now (ordering .entry)) → now (rows .exit) ≡ access-rows (view (now (self .entry))) (O·Ordering .meaning (now (ordering .entry))) (now (rows .entry)) «class» «record» r) ⌝ }
+        ensures same { λ _. ⌜ (O·Ordering .sound (now (ordering .entry)) →
+            O·Ordering .meaning (now (ordering .exit)) ≡ O·Ordering .meaning (now (ordering .entry))) ⌝ }
+        ensures rows { λ r. ⌜ (O·Ordering .sound (now (ordering .entry)) →
+            now (rows .exit) ≡
+            access-rows (view (now (self .entry))) (O·Ordering .meaning (now (ordering .entry))) (now (rows .entry)) «class»
+            «record» r) ⌝ }
         ensures refused { λ r. ⌜ ((e : Refusal) → r ≡ Err e → (now (ordering .exit) ≡ now (ordering .entry)) × (now (rows .exit) ≡ now (rows .entry))) ⌝ }
     {
         if !self.has_room() {
@@ -182,7 +203,8 @@ impl Check {
 
     /// Takes the verdict. While a scope besides main is open the check is handed back.
     pub fn verdict<O: Ordering>(self, ordering: &O) -> Result<Counts, (Refusal, Check)>
-        ensures { λ r. ⌜ (O·Ordering .sound (now (ordering .entry)) → r ≡ verdict-answer self (O·Ordering .meaning (now (ordering .entry)))) ⌝ }
+        ensures { λ r. ⌜ (O·Ordering .sound (now (ordering .entry)) →
+            r ≡ verdict-answer self (O·Ordering .meaning (now (ordering .entry)))) ⌝ }
     {
         if ordering.open_count() != 1 {
             return Err((Refusal::ScopeOpen, self));
@@ -192,7 +214,8 @@ impl Check {
 
     /// Ends the check, whatever is open.
     pub fn give_up<O: Ordering>(self, ordering: &O) -> Counts
-        ensures { λ r. ⌜ (O·Ordering .sound (now (ordering .entry)) → r ≡ counted (view self) (length (O·Ordering .meaning (now (ordering .entry)) .begun))) ⌝ }
+        ensures { λ r. ⌜ (O·Ordering .sound (now (ordering .entry)) →
+            r ≡ counted (view self) (length (O·Ordering .meaning (now (ordering .entry)) .begun))) ⌝ }
     {
         let Check {
             limit: _,

@@ -58,11 +58,25 @@ impl Check {
         rows: &mut [Row],
         call: Call,
     ) -> Reply
-        ensures reply { λ r. ⌜ (O·Ordering .sound (now (ordering .entry)) → r ≡ told (R·ClashRule .known (now (rule .entry))) (R·ClashRule .clash (now (rule .entry))) (store (now (self .entry)) (O·Ordering .meaning (now (ordering .entry))) (now (rows .entry))) call) ⌝ }
+        ensures reply { λ r. ⌜ (O·Ordering .sound (now (ordering .entry)) →
+            r ≡
+            told (R·ClashRule .known (now (rule .entry))) (R·ClashRule .clash (now (rule .entry)))
+            (store (now (self .entry)) (O·Ordering .meaning (now (ordering .entry))) (now (rows .entry))) call) ⌝ }
         ensures kept { λ _. ⌜ (O·Ordering .sound (now (ordering .entry)) → O·Ordering .sound (now (ordering .exit))) ⌝ }
-        ensures check { λ _. ⌜ (O·Ordering .sound (now (ordering .entry)) → view (now (self .exit)) ≡ left-by (R·ClashRule .known (now (rule .entry))) (R·ClashRule .clash (now (rule .entry))) (store (now (self .entry)) (O·Ordering .meaning (now (ordering .entry))) (now (rows .entry))) call .check) ⌝ }
-        ensures meaning { λ _. ⌜ (O·Ordering .sound (now (ordering .entry)) → O·Ordering .meaning (now (ordering .exit)) ≡ left-by (R·ClashRule .known (now (rule .entry))) (R·ClashRule .clash (now (rule .entry))) (store (now (self .entry)) (O·Ordering .meaning (now (ordering .entry))) (now (rows .entry))) call .meaning) ⌝ }
-        ensures rows { λ _. ⌜ (O·Ordering .sound (now (ordering .entry)) → now (rows .exit) ≡ left-by (R·ClashRule .known (now (rule .entry))) (R·ClashRule .clash (now (rule .entry))) (store (now (self .entry)) (O·Ordering .meaning (now (ordering .entry))) (now (rows .entry))) call .rows) ⌝ }
+        ensures check { λ _. ⌜ (O·Ordering .sound (now (ordering .entry)) →
+            view (now (self .exit)) ≡
+            left-by (R·ClashRule .known (now (rule .entry))) (R·ClashRule .clash (now (rule .entry)))
+            (store (now (self .entry)) (O·Ordering .meaning (now (ordering .entry))) (now (rows .entry))) call
+            .check) ⌝ }
+        ensures meaning { λ _. ⌜ (O·Ordering .sound (now (ordering .entry)) →
+            O·Ordering .meaning (now (ordering .exit)) ≡
+            left-by (R·ClashRule .known (now (rule .entry))) (R·ClashRule .clash (now (rule .entry)))
+            (store (now (self .entry)) (O·Ordering .meaning (now (ordering .entry))) (now (rows .entry))) call
+            .meaning) ⌝ }
+        ensures rows { λ _. ⌜ (O·Ordering .sound (now (ordering .entry)) →
+            now (rows .exit) ≡
+            left-by (R·ClashRule .known (now (rule .entry))) (R·ClashRule .clash (now (rule .entry)))
+            (store (now (self .entry)) (O·Ordering .meaning (now (ordering .entry))) (now (rows .entry))) call .rows) ⌝ }
     {
         match call {
             Call::OpenTask => opened(self.open_task(ordering)),

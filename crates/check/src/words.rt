@@ -81,24 +81,10 @@ pub enum Reply {
     Refused(Refusal),
 }
 
-/// A call, and the reply to it.
-#[derive(Clone, Copy)]
-pub struct Exchange {
-    pub call: Call,
-    pub reply: Reply,
-}
-
 /// What a verdict tells: accesses, accesses that found a clash, and scopes begun, main counted.
 #[derive(Clone, Copy)]
 pub struct Counts {
     pub accesses: u32,
     pub clashes: u32,
     pub scopes: u32,
-}
-
-/// How a conversation ends: with the verdict, or given up while a scope besides main is open.
-#[derive(Clone, Copy)]
-pub enum Ending {
-    Verdict(Counts),
-    GivenUp(Counts),
 }

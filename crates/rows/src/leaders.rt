@@ -20,7 +20,8 @@ use rules::ClashRule;
 const SLOTS: usize = 8;
 
 fn is_task<O: Ordering>(ordering: &O, number: u32) -> bool
-    ensures { λ r. ⌜ (O·Ordering .sound (now (ordering .entry)) → r ≡ says-task (kind-at (O·Ordering .meaning (now (ordering .entry)) .begun) number)) ⌝ }
+    ensures { λ r. ⌜ (O·Ordering .sound (now (ordering .entry)) →
+        r ≡ says-task (kind-at (O·Ordering .meaning (now (ordering .entry)) .begun) number)) ⌝ }
 {
     match ordering.kind_of(number) {
         Some(Kind::Task) => true,
@@ -30,9 +31,11 @@ fn is_task<O: Ordering>(ordering: &O, number: u32) -> bool
 }
 
 fn is_unordered<O: Ordering>(ordering: &mut O, task: u32) -> bool
-    ensures answer { λ r. ⌜ (O·Ordering .sound (now (ordering .entry)) → r ≡ is-unordered-in (O·Ordering .meaning (now (ordering .entry)) .begun) task) ⌝ }
+    ensures answer { λ r. ⌜ (O·Ordering .sound (now (ordering .entry)) →
+        r ≡ is-unordered-in (O·Ordering .meaning (now (ordering .entry)) .begun) task) ⌝ }
     ensures kept { λ _. ⌜ (O·Ordering .sound (now (ordering .entry)) → O·Ordering .sound (now (ordering .exit))) ⌝ }
-    ensures same { λ _. ⌜ (O·Ordering .sound (now (ordering .entry)) → O·Ordering .meaning (now (ordering .exit)) ≡ O·Ordering .meaning (now (ordering .entry))) ⌝ }
+    ensures same { λ _. ⌜ (O·Ordering .sound (now (ordering .entry)) →
+        O·Ordering .meaning (now (ordering .exit)) ≡ O·Ordering .meaning (now (ordering .entry))) ⌝ }
 {
     match ordering.ask(task) {
         Ok(Word::Unordered) => true,
@@ -107,7 +110,10 @@ impl Row {
     ) -> bool
         requires count { ⌜ now self .count ≤ 8 ⌝ }
         requires place { ⌜ i < now self .count ⌝ }
-        ensures value { λ r. ⌜ (O·Ordering .sound (now (ordering .entry)) → r ≡ slot-whole (R·ClashRule .known (now (rule .entry))) (O·Ordering .meaning (now (ordering .entry)) .begun) events (getD (now (self .entry) .slots) i no-slot) (drop (i + 1) (filled (now (self .entry))))) ⌝ }
+        ensures value { λ r. ⌜ (O·Ordering .sound (now (ordering .entry)) →
+            r ≡
+            slot-whole (R·ClashRule .known (now (rule .entry))) (O·Ordering .meaning (now (ordering .entry)) .begun) events
+            (getD (now (self .entry) .slots) i no-slot) (drop (i + 1) (filled (now (self .entry))))) ⌝ }
         ensures eight { λ _. ⌜ length (now (self .entry) .slots) ≡ 8 ⌝ }
     {
         let slot = self.slots[i];
@@ -126,7 +132,10 @@ impl Row {
     /// Whether every filled slot is whole.
     fn is_whole<O: Ordering, R: ClashRule>(&self, ordering: &O, rule: &R, events: u32) -> bool
         requires count { ⌜ now self .count ≤ 8 ⌝ }
-        ensures { λ r. ⌜ (O·Ordering .sound (now (ordering .entry)) → r ≡ slots-whole (R·ClashRule .known (now (rule .entry))) (O·Ordering .meaning (now (ordering .entry)) .begun) events (filled (now (self .entry)))) ⌝ }
+        ensures { λ r. ⌜ (O·Ordering .sound (now (ordering .entry)) →
+            r ≡
+            slots-whole (R·ClashRule .known (now (rule .entry))) (O·Ordering .meaning (now (ordering .entry)) .begun) events
+            (filled (now (self .entry)))) ⌝ }
     {
         for i in 0..self.count {
             if !self.slot_is_whole(i, ordering, rule, events) {
@@ -145,9 +154,14 @@ impl Row {
         event: u32,
     ) -> Finding
         requires count { ⌜ now self .count ≤ 8 ⌝ }
-        ensures answer { λ r. ⌜ (O·Ordering .sound (now (ordering .entry)) → r ≡ first-clash (R·ClashRule .clash (now (rule .entry))) (is-unordered-in (O·Ordering .meaning (now (ordering .entry)) .begun)) «class» event (filled (now (self .entry)))) ⌝ }
+        ensures answer { λ r. ⌜ (O·Ordering .sound (now (ordering .entry)) →
+            r ≡
+            first-clash (R·ClashRule .clash (now (rule .entry)))
+            (is-unordered-in (O·Ordering .meaning (now (ordering .entry)) .begun)) «class» event
+            (filled (now (self .entry)))) ⌝ }
         ensures kept { λ _. ⌜ (O·Ordering .sound (now (ordering .entry)) → O·Ordering .sound (now (ordering .exit))) ⌝ }
-        ensures same { λ _. ⌜ (O·Ordering .sound (now (ordering .entry)) → O·Ordering .meaning (now (ordering .exit)) ≡ O·Ordering .meaning (now (ordering .entry))) ⌝ }
+        ensures same { λ _. ⌜ (O·Ordering .sound (now (ordering .entry)) →
+            O·Ordering .meaning (now (ordering .exit)) ≡ O·Ordering .meaning (now (ordering .entry))) ⌝ }
     {
         for i in 0..self.count {
             let slot = self.slots[i];
@@ -165,9 +179,13 @@ impl Row {
         requires count { ⌜ now self .count ≤ 8 ⌝ }
         requires place { ⌜ i ≡ index-of (access .class) (filled (now self)) ⌝ }
         requires room { ⌜ i < 8 ⌝ }
-        ensures after { λ _. ⌜ (O·Ordering .sound (now (ordering .entry)) → now (self .exit) ≡ refilled (now (self .entry)) (settled (is-unordered-in (O·Ordering .meaning (now (ordering .entry)) .begun)) access (filled (now (self .entry))))) ⌝ }
+        ensures after { λ _. ⌜ (O·Ordering .sound (now (ordering .entry)) →
+            now (self .exit) ≡
+            refilled (now (self .entry))
+            (settled (is-unordered-in (O·Ordering .meaning (now (ordering .entry)) .begun)) access (filled (now (self .entry))))) ⌝ }
         ensures kept { λ _. ⌜ (O·Ordering .sound (now (ordering .entry)) → O·Ordering .sound (now (ordering .exit))) ⌝ }
-        ensures same { λ _. ⌜ (O·Ordering .sound (now (ordering .entry)) → O·Ordering .meaning (now (ordering .exit)) ≡ O·Ordering .meaning (now (ordering .entry))) ⌝ }
+        ensures same { λ _. ⌜ (O·Ordering .sound (now (ordering .entry)) →
+            O·Ordering .meaning (now (ordering .exit)) ≡ O·Ordering .meaning (now (ordering .entry))) ⌝ }
     {
         if i >= self.count {
             self.slots[i] = access;
@@ -188,10 +206,15 @@ impl Row {
         event: u32,
         class: u32,
     ) -> Result<Finding, RowFault>
-        ensures answer { λ r. ⌜ (O·Ordering .sound (now (ordering .entry)) → r ≡ row-answer (R·ClashRule .known (now (rule .entry))) (R·ClashRule .clash (now (rule .entry))) (O·Ordering .meaning (now (ordering .entry))) event «class» (now (self .entry))) ⌝ }
-        ensures after { λ r. ⌜ (O·Ordering .sound (now (ordering .entry)) → now (self .exit) ≡ row-after (O·Ordering .meaning (now (ordering .entry))) event «class» (now (self .entry)) r) ⌝ }
+        ensures answer { λ r. ⌜ (O·Ordering .sound (now (ordering .entry)) →
+            r ≡
+            row-answer (R·ClashRule .known (now (rule .entry))) (R·ClashRule .clash (now (rule .entry)))
+            (O·Ordering .meaning (now (ordering .entry))) event «class» (now (self .entry))) ⌝ }
+        ensures after { λ r. ⌜ (O·Ordering .sound (now (ordering .entry)) →
+            now (self .exit) ≡ row-after (O·Ordering .meaning (now (ordering .entry))) event «class» (now (self .entry)) r) ⌝ }
         ensures kept { λ _. ⌜ (O·Ordering .sound (now (ordering .entry)) → O·Ordering .sound (now (ordering .exit))) ⌝ }
-        ensures same { λ _. ⌜ (O·Ordering .sound (now (ordering .entry)) → O·Ordering .meaning (now (ordering .exit)) ≡ O·Ordering .meaning (now (ordering .entry))) ⌝ }
+        ensures same { λ _. ⌜ (O·Ordering .sound (now (ordering .entry)) →
+            O·Ordering .meaning (now (ordering .exit)) ≡ O·Ordering .meaning (now (ordering .entry))) ⌝ }
         ensures refused { λ r. ⌜ ((f : RowFault) → r ≡ Err f → (now (self .exit) ≡ now (self .entry)) × (now (ordering .exit) ≡ now (ordering .entry))) ⌝ }
     {
         if self.count > SLOTS {
