@@ -7,7 +7,10 @@ use orderings::Bags;
 use orderings::BagsOrdering;
 use orderings::Entry;
 use orderings::Fault;
+use orderings::Kind;
 use orderings::Ordering;
+use orderings::Question;
+use orderings::Told;
 use orderings::Word;
 use rows::Finding;
 use rows::Row;
@@ -25,10 +28,12 @@ fn shown(reply: Reply) -> (char, u32, u32) {
         Reply::Closed(number) => ('c', number, 0),
         Reply::Found(Finding::Clear) => ('-', 0, 0),
         Reply::Found(Finding::Clash((earlier, later))) => ('!', earlier, later),
-        Reply::Said(Word::Before) => ('b', 0, 0),
-        Reply::Said(Word::Unordered) => ('u', 0, 0),
-        Reply::Number(number) => ('n', number, 0),
-        Reply::OfKind(_) => ('k', 0, 0),
+        Reply::Told(Told::Word(Word::Before)) => ('b', 0, 0),
+        Reply::Told(Told::Word(Word::Unordered)) => ('u', 0, 0),
+        Reply::Told(Told::Number(number)) => ('n', number, 0),
+        Reply::Told(Told::Kind(Some(Kind::Task))) => ('t', 0, 0),
+        Reply::Told(Told::Kind(Some(Kind::Finish))) => ('f', 0, 0),
+        Reply::Told(Told::Kind(None)) => ('?', 0, 0),
         Reply::Refused(refusal) => {
             let code = refusal.code();
             ('r', u32::from(code.number), u32::from(code.layer))
@@ -45,8 +50,8 @@ fn replies<R: ClashRule>(
     wanted: &[(char, u32, u32)],
 ) -> Result<(), Fail> {
     let mut exchanges = [Exchange {
-        call: Call::ScopesBegun,
-        reply: Reply::Number(0),
+        call: Call::Ask(Question::ScopesBegun),
+        reply: Reply::Told(Told::Number(0)),
     }; 16];
     let count = calls.len();
     check(count <= 16 && count == wanted.len())?;
@@ -91,10 +96,10 @@ fn a_table_of_one_entry_gives_one_number() -> Result<(), Fail> {
 #[test]
 fn an_empty_table_serves_main() -> Result<(), Fail> {
     let calls = [
-        Call::NumbersLeft,
+        Call::Ask(Question::NumbersLeft),
         Call::OpenTask,
         Call::Access(1, 5),
-        Call::Ask(0),
+        Call::Ask(Question::WordOf(0)),
         Call::Close,
     ];
     let wanted = [
@@ -114,7 +119,7 @@ fn the_limit_is_tested_first() -> Result<(), Fail> {
         Call::Close,
         Call::Close,
         Call::Access(7, 99),
-        Call::Ask(1),
+        Call::Ask(Question::WordOf(1)),
     ];
     let wanted = [
         ('o', 1, 0),
@@ -131,14 +136,14 @@ fn every_question_is_answered() -> Result<(), Fail> {
     let calls = [
         Call::OpenFinish,
         Call::OpenTask,
-        Call::InnermostTask,
-        Call::OpenCount,
-        Call::ScopesBegun,
-        Call::NumbersLeft,
-        Call::KindOf(1),
-        Call::Ask(1),
-        Call::Ask(2),
-        Call::Ask(3),
+        Call::Ask(Question::InnermostTask),
+        Call::Ask(Question::OpenCount),
+        Call::Ask(Question::ScopesBegun),
+        Call::Ask(Question::NumbersLeft),
+        Call::Ask(Question::KindOf(1)),
+        Call::Ask(Question::WordOf(1)),
+        Call::Ask(Question::WordOf(2)),
+        Call::Ask(Question::WordOf(3)),
     ];
     let wanted = [
         ('o', 1, 0),
@@ -147,7 +152,7 @@ fn every_question_is_answered() -> Result<(), Fail> {
         ('n', 3, 0),
         ('n', 3, 0),
         ('n', 6, 0),
-        ('k', 0, 0),
+        ('f', 0, 0),
         ('r', 12, 4),
         ('b', 0, 0),
         ('r', 12, 4),

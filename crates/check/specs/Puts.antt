@@ -2,23 +2,22 @@
 use mathlib.Core.Bool.{Bool}
 use mathlib.Core.List.{List}
 use Prim.Native.Nat.{ℕ}
-use lib.ListN.{length}
 use Rattle.std.specs.declared.result.Result.{Result}
 use Rattle.std.specs.declared.result.Result.the-variants.{Ok, Err}
-use Rattle.graph.specs.History.{innermost-task}
+use Rattle.orderings.specs.declared.questions.Told.{Told}
 use Rattle.orderings.specs.declared.words.Fault.{Fault}
 use Rattle.orderings.specs.declared.words.Kind.the-variants.{Task, Finish}
-use Rattle.orderings.specs.declared.words.Word.{Word}
-use Rattle.orderings.specs.Meaning.{Meaning, opening, after-open, closing, after-close, asked, kind-at}
+use Rattle.orderings.specs.Meaning.{Meaning, opening, after-open, closing, after-close}
+use Rattle.orderings.specs.Questions.{telling}
 use Rattle.rows.specs.declared.row.Row.{Row}
 use Rattle.rows.specs.declared.words.Finding.{Finding}
 use Rattle.check.specs.declared.state.Check.{Check}
 use Rattle.check.specs.declared.words.Call.{Call}
-use Rattle.check.specs.declared.words.Call.the-variants.{OpenTask, OpenFinish, Close, Access, Ask, InnermostTask, OpenCount, KindOf, ScopesBegun, NumbersLeft}
+use Rattle.check.specs.declared.words.Call.the-variants.{OpenTask, OpenFinish, Close, Access, Ask}
 use Rattle.check.specs.declared.words.Refusal.{Refusal}
 use Rattle.check.specs.declared.words.Refusal.the-variants.{Order}
 use Rattle.check.specs.declared.words.Reply.{Reply}
-use Rattle.check.specs.declared.words.Reply.the-variants.{Opened, Closed, Found, Said, Number, OfKind, Refused}
+use Rattle.check.specs.declared.words.Reply.the-variants.{Opened, Closed, Found, Told as ToldSo, Refused}
 use Rattle.check.specs.Calls.{View, view, limited, from-order, when-room, one-more, access-answer, one-access, access-rows}
 
 -- the check, what the ordering means, and the rows
@@ -42,9 +41,9 @@ abbrev pub access-told : Result Finding Refusal → Reply
 access-told (Ok f) = Found f
 access-told (Err e) = Refused e
 
-abbrev pub word-told : Result Word Fault → Reply
-word-told (Ok w) = Said w
-word-told (Err e) = Refused (Order e)
+abbrev pub question-told : Result Told Fault → Reply
+question-told (Ok a) = ToldSo a
+question-told (Err f) = Refused (Order f)
 
 abbrev pub open-answer : Store → Result ℕ Refusal
 open-answer σ = limited (σ .check) (from-order (opening (σ .meaning)))
@@ -53,17 +52,12 @@ abbrev pub close-answer : Store → Result ℕ Refusal
 close-answer σ = limited (σ .check) (from-order (closing (σ .meaning)))
 
 module _ (known : ℕ → Bool) (clash : ℕ → ℕ → Bool) (σ : Store) where
-  abbrev pub told : Call → Reply
-  told OpenTask = open-told (open-answer σ)
-  told OpenFinish = open-told (open-answer σ)
-  told Close = close-told (close-answer σ)
-  told (Access c r) = access-told (access-answer known clash (σ .check) (σ .meaning) (σ .rows) c r)
-  told (Ask t) = word-told (asked (σ .meaning .begun) t)
-  told InnermostTask = Number (innermost-task (σ .meaning .opened))
-  told OpenCount = Number (length (σ .meaning .opened))
-  told (KindOf n) = OfKind (kind-at (σ .meaning .begun) n)
-  told ScopesBegun = Number (length (σ .meaning .begun))
-  told NumbersLeft = Number (σ .meaning .left)
+  abbrev pub reply-of : Call → Reply
+  reply-of OpenTask = open-told (open-answer σ)
+  reply-of OpenFinish = open-told (open-answer σ)
+  reply-of Close = close-told (close-answer σ)
+  reply-of (Access c r) = access-told (access-answer known clash (σ .check) (σ .meaning) (σ .rows) c r)
+  reply-of (Ask q) = question-told (telling (σ .meaning) q)
 
   -- after an open or a close that was answered so, where the ordering would leave m
   abbrev pub after-event : Result ℕ Refusal → Meaning → Store
@@ -78,9 +72,4 @@ module _ (known : ℕ → Bool) (clash : ℕ → ℕ → Bool) (σ : Store) wher
   left-by OpenFinish = after-event (open-answer σ) (after-open Finish (σ .meaning))
   left-by Close = after-event (close-answer σ) (after-close (σ .meaning))
   left-by (Access c r) = after-access c r (access-answer known clash (σ .check) (σ .meaning) (σ .rows) c r)
-  left-by (Ask t) = σ
-  left-by InnermostTask = σ
-  left-by OpenCount = σ
-  left-by (KindOf n) = σ
-  left-by ScopesBegun = σ
-  left-by NumbersLeft = σ
+  left-by (Ask q) = σ

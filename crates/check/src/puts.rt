@@ -1,14 +1,16 @@
 //! One call of any kind, put to a check.
 ghost use mathlib.Core.Path.{_≡_};
+ghost use Rattle.check.specs.declared.words.Reply.the-variants.{Refused};
 ghost use Rattle.check.specs.Calls.{view};
-ghost use Rattle.check.specs.Puts.{store, open-told, close-told, access-told, word-told, told, left-by};
+ghost use Rattle.check.specs.Puts.{store, open-told, close-told, access-told, question-told, reply-of, left-by};
 use crate::state::Check;
 use crate::words::Call;
 use crate::words::Refusal;
 use crate::words::Reply;
 use orderings::Fault;
 use orderings::Ordering;
-use orderings::Word;
+use orderings::Told;
+use orderings::tell;
 use rows::Finding;
 use rows::Row;
 use rules::ClashRule;
@@ -40,11 +42,11 @@ fn found(answer: Result<Finding, Refusal>) -> Reply
     }
 }
 
-fn said(answer: Result<Word, Fault>) -> Reply
-    ensures { λ r. ⌜ r ≡ word-told answer ⌝ }
+fn answered(answer: Result<Told, Fault>) -> Reply
+    ensures { λ r. ⌜ r ≡ question-told answer ⌝ }
 {
     match answer {
-        Ok(word) => Reply::Said(word),
+        Ok(told) => Reply::Told(told),
         Err(fault) => Reply::Refused(Refusal::Order(fault)),
     }
 }
@@ -60,7 +62,7 @@ impl Check {
     ) -> Reply
         ensures reply { λ r. ⌜ (O·Ordering .sound (now (ordering .entry)) →
             r ≡
-            told (R·ClashRule .known (now (rule .entry))) (R·ClashRule .clash (now (rule .entry)))
+            reply-of (R·ClashRule .known (now (rule .entry))) (R·ClashRule .clash (now (rule .entry)))
             (store (now (self .entry)) (O·Ordering .meaning (now (ordering .entry))) (now (rows .entry))) call) ⌝ }
         ensures kept { λ _. ⌜ (O·Ordering .sound (now (ordering .entry)) → O·Ordering .sound (now (ordering .exit))) ⌝ }
         ensures check { λ _. ⌜ (O·Ordering .sound (now (ordering .entry)) →
@@ -77,18 +79,15 @@ impl Check {
             now (rows .exit) ≡
             left-by (R·ClashRule .known (now (rule .entry))) (R·ClashRule .clash (now (rule .entry)))
             (store (now (self .entry)) (O·Ordering .meaning (now (ordering .entry))) (now (rows .entry))) call .rows) ⌝ }
+        ensures refused { λ r. ⌜ ((e : Refusal) → r ≡ Refused e →
+            (view (now (self .exit)) ≡ view (now (self .entry))) × (now (ordering .exit) ≡ now (ordering .entry)) × (now (rows .exit) ≡ now (rows .entry))) ⌝ }
     {
         match call {
             Call::OpenTask => opened(self.open_task(ordering)),
             Call::OpenFinish => opened(self.open_finish(ordering)),
             Call::Close => closed(self.close(ordering)),
             Call::Access(class, record) => found(self.access(ordering, rule, rows, class, record)),
-            Call::Ask(task) => said(ordering.ask(task)),
-            Call::InnermostTask => Reply::Number(ordering.innermost_task()),
-            Call::OpenCount => Reply::Number(ordering.open_count()),
-            Call::KindOf(number) => Reply::OfKind(ordering.kind_of(number)),
-            Call::ScopesBegun => Reply::Number(ordering.begun()),
-            Call::NumbersLeft => Reply::Number(ordering.left()),
+            Call::Ask(question) => answered(tell(ordering, question)),
         }
     }
 }

@@ -3,8 +3,8 @@ ghost use mathlib.Core.Path.{_≡_};
 ghost use Rattle.check.specs.Numbers.{refusal-code};
 use orderings::Code;
 use orderings::Fault;
-use orderings::Kind;
-use orderings::Word;
+use orderings::Question;
+use orderings::Told;
 use rows::Finding;
 use rows::RowFault;
 
@@ -16,14 +16,8 @@ pub enum Call {
     Close,
     /// An access of a class to a record.
     Access(u32, u32),
-    /// The word of a task.
-    Ask(u32),
-    InnermostTask,
-    OpenCount,
-    /// The kind of a scope's number.
-    KindOf(u32),
-    ScopesBegun,
-    NumbersLeft,
+    /// A question to the ordering.
+    Ask(Question),
 }
 
 /// Why a check refuses a call.
@@ -74,10 +68,8 @@ pub enum Reply {
     Closed(u32),
     /// What an access found.
     Found(Finding),
-    /// The word of the task asked about.
-    Said(Word),
-    Number(u32),
-    OfKind(Option<Kind>),
+    /// What the ordering told.
+    Told(Told),
     Refused(Refusal),
 }
 

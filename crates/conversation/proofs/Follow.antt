@@ -7,8 +7,9 @@ use Prim.Native.Nat.{ℕ, _<_}
 use native.Mathlib.Omega.{arith}
 use lib.ListN.{length}
 use lib.Dec.{T, ltb, leb}
-use Rattle.std.specs.declared.option.Option.{Option}
-use Rattle.std.specs.declared.option.Option.the-variants.{Some, None}
+use Rattle.std.specs.declared.option.Option.the-variants.{Some}
+use Rattle.std.specs.declared.result.Result.{Result}
+use Rattle.std.specs.declared.result.Result.the-variants.{Ok, Err}
 use Rattle.rules.specs.Rules.{depot}
 use Rattle.graph.specs.History.{access, History, begun, scopes, innermost}
 use Rattle.graph.specs.Graph.{Put, Path, newest, older, Is-access}
@@ -19,21 +20,22 @@ use Rattle.graph.proofs.OpenScopes.{Tail, put-lt, put-before, put-length, order
 use Rattle.graph.proofs.PathsRise.{path-up}
 use Rattle.graph.proofs.Exchange.{path-dec, exchange-exact}
 use Rattle.graph.proofs.ReadsAlike.{clash-free-reads-alike}
-use Rattle.orderings.specs.declared.words.Kind.{Kind}
-use Rattle.orderings.specs.declared.words.Kind.the-variants.{Task, Finish}
-use Rattle.orderings.specs.Past.{kind-of}
+use Rattle.orderings.specs.declared.questions.Told.{Told}
+use Rattle.orderings.specs.declared.words.Fault.{Fault}
+use Rattle.orderings.specs.Questions.{telling-past}
 use Rattle.rows.specs.declared.words.Finding.{Finding}
 use Rattle.rows.specs.declared.words.Finding.the-variants.{Clear, Clash}
 use Rattle.rows.specs.declared.words.RowFault.the-variants.{Full, Damaged}
 use Rattle.check.specs.declared.words.Call.{Call}
-use Rattle.check.specs.declared.words.Call.the-variants.{OpenTask, OpenFinish, Close, Access, Ask, InnermostTask, OpenCount, KindOf, ScopesBegun, NumbersLeft}
+use Rattle.check.specs.declared.words.Call.the-variants.{OpenTask, OpenFinish, Close, Access, Ask}
 use Rattle.check.specs.declared.words.Refusal.{Refusal}
 use Rattle.check.specs.declared.words.Refusal.the-variants.{NoSuchRecord, UnknownClass, BadStart, LimitReached, ScopeOpen, AlreadyBegun, Row, Order}
 use Rattle.check.specs.declared.words.Reply.{Reply}
-use Rattle.check.specs.declared.words.Reply.the-variants.{Opened, Closed, Found, Said, Number, OfKind, Refused}
+use Rattle.check.specs.declared.words.Reply.the-variants.{Opened, Closed, Found, Told as ToldSo, Refused}
 use Rattle.conversation.specs.declared.words.Exchange.{Exchange}
+use Rattle.check.specs.Puts.{question-told}
 use Rattle.conversation.specs.Leaders.{reached}
-use Rattle.conversation.specs.Replies.{Setting, reply-to, is-refusal, event-of, after, after-all, events, word-reply, room-for, first-found}
+use Rattle.conversation.specs.Replies.{Setting, reply-to, is-refusal, event-of, after, after-all, events, room-for, first-found}
 use Rattle.conversation.specs.Theorem.{Comes, Replies-right, Answered, Clashing, Clash-exact, Is-depot, Facts-follow}
 use Rattle.conversation.proofs.RowsLead.{row, row-leads}
 use Rattle.conversation.proofs.FirstClash.{Exact, answer-exact}
@@ -61,12 +63,7 @@ call-of OpenTask c r e = let q : _≡_ {A = ℕ} 0 1 = cc in absurd (omega arith
 call-of OpenFinish c r e = let q : _≡_ {A = ℕ} 0 1 = cc in absurd (omega arith)
 call-of Close c r e = let q : _≡_ {A = ℕ} 0 1 = cc in absurd (omega arith)
 call-of (Access a b) c r e = cc
-call-of (Ask t) c r e = let q : _≡_ {A = ℕ} 0 1 = cc in absurd (omega arith)
-call-of InnermostTask c r e = let q : _≡_ {A = ℕ} 0 1 = cc in absurd (omega arith)
-call-of OpenCount c r e = let q : _≡_ {A = ℕ} 0 1 = cc in absurd (omega arith)
-call-of (KindOf n) c r e = let q : _≡_ {A = ℕ} 0 1 = cc in absurd (omega arith)
-call-of ScopesBegun c r e = let q : _≡_ {A = ℕ} 0 1 = cc in absurd (omega arith)
-call-of NumbersLeft c r e = let q : _≡_ {A = ℕ} 0 1 = cc in absurd (omega arith)
+call-of (Ask a) c r e = let q : _≡_ {A = ℕ} 0 1 = cc in absurd (omega arith)
 
 restated : (x : Exchange) (call : Call) (reply : Reply) → x .call ≡ call → x .reply ≡ reply → x ≡ record { call = call; reply = reply }
 restated x call reply e f = ap (λ (c : Call). record { call = c; reply = x .reply }) e ∙ ap (λ (r : Reply). record { call = call; reply = r }) f
@@ -76,9 +73,7 @@ abbrev says-damaged : Reply → Bool
 says-damaged (Opened n) = false
 says-damaged (Closed n) = false
 says-damaged (Found f) = false
-says-damaged (Said w) = false
-says-damaged (Number n) = false
-says-damaged (OfKind k) = false
+says-damaged (ToldSo a) = false
 says-damaged (Refused NoSuchRecord) = false
 says-damaged (Refused UnknownClass) = false
 says-damaged (Refused BadStart) = false
@@ -212,22 +207,16 @@ module _ (s : Setting) (all : List Exchange) (right : Replies-right s all) where
   whole-open : (h : History) → says-damaged (reply-to s h OpenTask) ≡ false
   whole-open h = whole-cond (ltb (length h) (s .limit)) _ _ (whole-cond (leb (begun h) (s .numbers)) _ _ refl refl) refl
 
-  whole-word : (h : History) (t : ℕ) (k : Option Kind) → says-damaged (word-reply h t k) ≡ false
-  whole-word h t None = refl
-  whole-word h t (Some Task) = refl
-  whole-word h t (Some Finish) = refl
+  whole-told : (a : Result Told Fault) → says-damaged (question-told a) ≡ false
+  whole-told (Ok a) = refl
+  whole-told (Err f) = refl
 
   whole-reply : (h : History) (call : Call) → says-damaged (reply-to s h call) ≡ false
   whole-reply h OpenTask = whole-open h
   whole-reply h OpenFinish = whole-open h
   whole-reply h Close = whole-cond (ltb (length h) (s .limit)) _ _ (whole-cond (ltb 1 (length (scopes h))) _ _ refl refl) refl
   whole-reply h (Access c r) = whole-cond (ltb (length h) (s .limit)) _ _ (whole-cond (ltb r (s .records)) _ _ (whole-cond (s .known c) _ _ (whole-cond (room-for c (reached h r)) _ _ refl refl) refl) refl) refl
-  whole-reply h (Ask t) = whole-word h t (kind-of h t)
-  whole-reply h InnermostTask = refl
-  whole-reply h OpenCount = refl
-  whole-reply h (KindOf n) = refl
-  whole-reply h ScopesBegun = refl
-  whole-reply h NumbersLeft = refl
+  whole-reply h (Ask q) = whole-told (telling-past (s .numbers) h q)
 
   undamaged : (b : List Exchange) (x : Exchange) → Comes all b x → x .reply ≢ Refused (Row Damaged)
   undamaged b x m e = let q = sym (whole-reply (events b) (x .call)) ∙ ap says-damaged (sym (right b x m) ∙ e) in let z : _≡_ {A = ℕ} 0 1 = cc in omega arith

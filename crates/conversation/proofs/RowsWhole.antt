@@ -16,13 +16,13 @@ use Rattle.orderings.specs.declared.words.Kind.the-variants.{Task, Finish}
 use Rattle.orderings.specs.Meaning.{Meaning, Begun, kind, kind-at, asked, word-of}
 use Rattle.orderings.specs.Past.{kind-of, as-begun, Means}
 use Rattle.orderings.proofs.Means.{kind-stays, kind-innermost}
+use Rattle.orderings.proofs.Telling.{kind-as}
 use Rattle.rows.specs.declared.row.Slot.{Slot}
 use Rattle.rows.specs.declared.words.Finding.{Finding}
 use Rattle.rows.specs.declared.words.Finding.the-variants.{Clash}
 use Rattle.rows.specs.Slots.{holds-class, has-room, first-clash, settled}
 use Rattle.rows.specs.Rows.{is-unordered-in, says-unordered, says-task, slot-whole, slots-whole}
-use Rattle.conversation.specs.Replies.{Setting, word-reply}
-use Rattle.check.specs.Puts.{word-told}
+use Rattle.conversation.specs.Replies.{Setting}
 use Rattle.conversation.proofs.RowsLead.{is-free, slot, settle, row, Holds, Once}
 use Rattle.conversation.proofs.Runs.{Good}
 
@@ -72,22 +72,6 @@ is-true true t = refl
 is-true false t = absurd t
 
 module _ (n : ℕ) (h : History) (m : Meaning) (M : Means n h m) where
-  pub kind-as : (t : ℕ) → kind-at (m .begun) t ≡ kind-of h t
-  kind-as t = ap kind (M .scope t) ∙ go (kind-of h t)
-    where
-      go : (o : Option Kind) → kind (as-begun h t o) ≡ o
-      go None = refl
-      go (Some Task) = refl
-      go (Some Finish) = refl
-
-  pub word-as : (t : ℕ) → word-told (asked (m .begun) t) ≡ word-reply h t (kind-of h t)
-  word-as t = ap (λ (o : Option Begun). word-told (word-of o)) (M .scope t) ∙ go (kind-of h t)
-    where
-      go : (o : Option Kind) → word-told (word-of (as-begun h t o)) ≡ word-reply h t o
-      go None = refl
-      go (Some Task) = refl
-      go (Some Finish) = refl
-
   free-as : (t : ℕ) → kind-of h t ≡ Some Task → is-unordered-in (m .begun) t ≡ is-free h t
   free-as t k = ap (λ (o : Option Begun). says-unordered (word-of o)) (M .scope t ∙ ap (as-begun h t) k) ∙ go (place h t) refl
     where
@@ -100,7 +84,7 @@ module _ (n : ℕ) (h : History) (m : Meaning) (M : Means n h m) where
   rows-whole s (x ∷ l) ((k, t, b), a) (o, os) =
       let p = is-true (s .known (x .class)) k in
       let q = not-held (x .class) l o in
-      let r : says-task (kind-at (m .begun) (x .task)) ≡ true = ap says-task (kind-as (x .task) ∙ t) in
+      let r : says-task (kind-at (m .begun) (x .task)) ≡ true = ap says-task (kind-as n h m M (x .task) ∙ t) in
       let v = lt-ltb (x .event) (length h) b in
       simp (p, q, r, v) (rows-whole s l a os)
 

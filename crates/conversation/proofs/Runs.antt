@@ -15,11 +15,11 @@ use Rattle.graph.proofs.OpenScopes.{Tail, same, more, put-lt}
 use Rattle.graph.proofs.LeadersDecide.{put-cases}
 use Rattle.graph.proofs.Arrows.{path-older, path-cases}
 use Rattle.check.specs.declared.words.Call.{Call}
-use Rattle.check.specs.declared.words.Call.the-variants.{OpenTask, OpenFinish, Close, Access, Ask, InnermostTask, OpenCount, KindOf, ScopesBegun, NumbersLeft}
+use Rattle.check.specs.declared.words.Call.the-variants.{OpenTask, OpenFinish, Close, Access, Ask}
 use Rattle.check.specs.declared.words.Refusal.{Refusal}
 use Rattle.rows.specs.declared.words.Finding.{Finding}
 use Rattle.check.specs.declared.words.Reply.{Reply}
-use Rattle.check.specs.declared.words.Reply.the-variants.{Opened, Closed, Found, Said, Number, OfKind, Refused}
+use Rattle.check.specs.declared.words.Reply.the-variants.{Opened, Closed, Found, Refused}
 use Rattle.conversation.specs.declared.words.Exchange.{Exchange}
 use Rattle.conversation.specs.Replies.{Setting, reply-to, is-refusal, event-of, noted, after, after-all, events, room-for, first-found}
 use Rattle.conversation.specs.Leaders.{reached}
@@ -125,12 +125,7 @@ module _ (s : Setting) (h : History) (g : Good s h) where
   step OpenFinish = either (is-refusal (reply-to s h OpenFinish)) (open-finish ∷ h) g
   step Close = close-step (ltb (length h) (s .limit)) (ltb 1 (length (scopes h))) (innermost (scopes h)) _ _ (λ t. ltb→lt 1 (length (scopes h)) t)
   step (Access c r) = access-step (ltb (length h) (s .limit)) (ltb r (s .records)) (s .known c) (room-for c (reached h r)) c r (first-found s h c r (reached h r)) _ _ _ _ (λ t. t)
-  step (Ask t) = either (is-refusal (reply-to s h (Ask t))) h g
-  step InnermostTask = either (is-refusal (reply-to s h InnermostTask)) h g
-  step OpenCount = either (is-refusal (reply-to s h OpenCount)) h g
-  step (KindOf n) = either (is-refusal (reply-to s h (KindOf n))) h g
-  step ScopesBegun = either (is-refusal (reply-to s h ScopesBegun)) h g
-  step NumbersLeft = either (is-refusal (reply-to s h NumbersLeft)) h g
+  step (Ask q) = either (is-refusal (reply-to s h (Ask q))) h g
 
 pub good-after : (s : Setting) (h : History) → Good s h → (x : Exchange) → x .reply ≡ reply-to s h (x .call) → Good s (after x h)
 good-after s h g x e = subst⁻¹ (λ (r : Reply). Good s (cond (is-refusal r) h (noted (event-of (x .call)) h))) e (step s h g (x .call))

@@ -20,6 +20,7 @@ use Rattle.orderings.specs.declared.words.Kind.the-variants.{Task, Finish}
 use Rattle.orderings.specs.Meaning.{Meaning, with-scope, without-innermost}
 use Rattle.orderings.specs.Past.{Means}
 use Rattle.orderings.proofs.Means.{means-task, means-finish, means-close, means-access}
+use Rattle.orderings.proofs.Telling.{telling-as}
 use Rattle.rows.specs.declared.row.Row.{Row}
 use Rattle.rows.specs.declared.row.Slot.{Slot}
 use Rattle.rows.specs.declared.words.Finding.{Finding}
@@ -28,20 +29,20 @@ use Rattle.rows.specs.declared.words.RowFault.the-variants.{Full, Damaged}
 use Rattle.rows.specs.Slots.{has-room, first-clash, settled}
 use Rattle.rows.specs.Rows.{no-slot, no-row, filled, refilled, is-unordered-in, slots-whole, row-whole, row-answer}
 use Rattle.check.specs.declared.words.Call.{Call}
-use Rattle.check.specs.declared.words.Call.the-variants.{OpenTask, OpenFinish, Close, Access, Ask, InnermostTask, OpenCount, KindOf, ScopesBegun, NumbersLeft}
+use Rattle.check.specs.declared.words.Call.the-variants.{OpenTask, OpenFinish, Close, Access, Ask}
 use Rattle.check.specs.declared.words.Refusal.{Refusal}
 use Rattle.check.specs.declared.words.Refusal.the-variants.{LimitReached, NoSuchRecord, UnknownClass, Row as RowRefuses, Order}
 use Rattle.check.specs.declared.words.Reply.{Reply}
-use Rattle.check.specs.declared.words.Reply.the-variants.{Opened, Closed, Found, Number, OfKind, Refused}
+use Rattle.check.specs.declared.words.Reply.the-variants.{Opened, Closed, Found, Refused}
 use Rattle.conversation.specs.Leaders.{reached, row-of}
 use Rattle.conversation.specs.Replies.{Setting, reply-to, is-refusal, event-of, noted, room-for, first-found, accesses, clashes-found}
 use Rattle.check.specs.Calls.{View, from-order, from-row, one-more, access-answer, one-clash, one-access, access-rows}
-use Rattle.check.specs.Puts.{Store, open-told, close-told, access-told, told, left-by}
+use Rattle.check.specs.Puts.{Store, open-told, close-told, access-told, question-told, reply-of, left-by}
 use Rattle.conversation.specs.State.{State}
 use Rattle.conversation.proofs.RowsLead.{slot, settle, row, row-leads}
 use Rattle.conversation.proofs.RowsOfHistory.{room-as, found-as, length-as, filled-as, row-from, row-of-as}
 use Rattle.conversation.proofs.Runs.{Good}
-use Rattle.conversation.proofs.RowsWhole.{All-sane, rows-sane, rows-whole, kind-as, word-as, first-same, settled-same, settled-few, settled-more}
+use Rattle.conversation.proofs.RowsWhole.{All-sane, rows-sane, rows-whole, first-same, settled-same, settled-few, settled-more}
 
 none-left : (l b n : ℕ) → l + b ≡ n + 1 → eqb l 0 ≡ not (leb b n)
 none-left l b n e = go (leb b n) refl
@@ -111,7 +112,7 @@ module _ (s : Setting) (h : History) (σ : Store) (S : State s h σ) (g : Good s
     done a b n x y z p q r f = subst⁻¹ (λ (t : Bool). Goal a b n t y z) p (subst⁻¹ (λ (t : Bool). Goal a b n a t z) q (subst⁻¹ (λ (t : ℕ). Goal a b n a (not b) t) r (goal a b n f)))
 
   abbrev Follows : Call → Type 0
-  Follows call = (told (s .known) (s .clash) σ call ≡ reply-to s h call) × State s (cond (is-refusal (reply-to s h call)) h (noted (event-of call) h)) (left-by (s .known) (s .clash) σ call)
+  Follows call = (reply-of (s .known) (s .clash) σ call ≡ reply-to s h call) × State s (cond (is-refusal (reply-to s h call)) h (noted (event-of call) h)) (left-by (s .known) (s .clash) σ call)
 
   some-left : leb (begun h) (s .numbers) ≡ true → m .left ≢ 0
   some-left b z = let q = S .meaning .left in let l = leb-true (begun h) (s .numbers) b in omega arith
@@ -273,17 +274,9 @@ module _ (s : Setting) (h : History) (σ : Store) (S : State s h σ) (g : Good s
   asked-state true = S
   asked-state false = S
 
-  left-is : m .left ≡ (s .numbers + 1) - begun h
-  left-is = let q = S .meaning .left in omega arith
-
   pub step : (call : Call) → Follows call
   step OpenTask = step-task
   step OpenFinish = step-finish
   step Close = step-close
   step (Access c r) = step-access c r
-  step (Ask t) = (word-as (s .numbers) h m (S .meaning) t, asked-state (is-refusal (reply-to s h (Ask t))))
-  step InnermostTask = (ap (λ (ss : List Scope). Number (innermost-task ss)) (S .meaning .opened), S)
-  step OpenCount = (ap (λ (ss : List Scope). Number (length ss)) (S .meaning .opened), S)
-  step (KindOf n) = (ap OfKind (kind-as (s .numbers) h m (S .meaning) n), S)
-  step ScopesBegun = (ap Number (S .meaning .count), S)
-  step NumbersLeft = (ap Number left-is, S)
+  step (Ask q) = (ap question-told (telling-as (s .numbers) h m (S .meaning) q), asked-state (is-refusal (reply-to s h (Ask q))))

@@ -14,7 +14,7 @@ use Rattle.conversation.specs.declared.words.Exchange.{Exchange}
 use Rattle.conversation.specs.Replies.{Setting, reply-to, is-refusal, event-of, noted, after, after-all, events}
 use Rattle.conversation.specs.Theorem.{Replies-right, Comes}
 use Rattle.check.specs.Calls.{View}
-use Rattle.check.specs.Puts.{Store, told, left-by}
+use Rattle.check.specs.Puts.{Store, reply-of, left-by}
 use Rattle.conversation.specs.State.{State}
 use Rattle.conversation.specs.Conversation.{calls-of}
 use Rattle.conversation.proofs.Runs.{Good, good-after, after-append}
@@ -40,7 +40,7 @@ turn-good s h [] g t = g
 turn-good s h (x ∷ xs) g t = turn-good s (after x h) xs (good-after s h g x (t .0)) (t .1)
 
 -- one exchange more
-pub one-turn : (s : Setting) (xs : List Exchange) (i : ℕ) (call : Call) (reply : Reply) (σ τ : Store) → i < length xs → reply ≡ told (s .known) (s .clash) σ call → τ ≡ left-by (s .known) (s .clash) σ call →
+pub one-turn : (s : Setting) (xs : List Exchange) (i : ℕ) (call : Call) (reply : Reply) (σ τ : Store) → i < length xs → reply ≡ reply-of (s .known) (s .clash) σ call → τ ≡ left-by (s .known) (s .clash) σ call →
     In-turn s [] (take i xs) × State s (events (take i xs)) σ →
     In-turn s [] (take (i + 1) (set xs i (record { call = call; reply = reply }))) × State s (events (take (i + 1) (set xs i (record { call = call; reply = reply })))) τ
 one-turn s xs i call reply σ τ l p q (t, S) =

@@ -1,30 +1,27 @@
 -- The reply to a call, from the events accepted before it.
-use mathlib.Core.Path.{_≡_}
 use mathlib.Core.Bool.{Bool, true, false, cond}
-use mathlib.Core.List.{List, [], _∷_, _++_}
-use Prim.Native.Nat.{ℕ, _+_, _-_}
+use mathlib.Core.List.{List, [], _∷_}
+use Prim.Native.Nat.{ℕ, _+_}
 use lib.ListN.{length}
 use lib.Dec.{eqb, leb, ltb}
 use Rattle.std.specs.declared.option.Option.{Option}
 use Rattle.std.specs.declared.option.Option.the-variants.{Some, None}
-use Rattle.graph.specs.History.{Event, open-task, open-finish, close, access, History, begun, scopes, innermost, innermost-task, place, is-unordered}
-use Rattle.orderings.specs.declared.words.Kind.{Kind}
-use Rattle.orderings.specs.declared.words.Kind.the-variants.{Task, Finish}
-use Rattle.orderings.specs.declared.words.Fault.the-variants.{NoNumberLeft, MainAlone, NoSuchTask}
-use Rattle.orderings.specs.Meaning.{word}
-use Rattle.orderings.specs.Past.{kind-of}
+use Rattle.graph.specs.History.{Event, open-task, open-finish, close, access, History, begun, scopes, innermost, place, is-unordered}
+use Rattle.orderings.specs.declared.words.Fault.the-variants.{NoNumberLeft, MainAlone}
+use Rattle.orderings.specs.Questions.{telling-past}
 use Rattle.check.specs.declared.words.Call.{Call}
-use Rattle.check.specs.declared.words.Call.the-variants.{OpenTask, OpenFinish, Close, Access, Ask, InnermostTask, OpenCount, KindOf, ScopesBegun, NumbersLeft}
+use Rattle.check.specs.declared.words.Call.the-variants.{OpenTask, OpenFinish, Close, Access, Ask}
 use Rattle.check.specs.declared.words.Refusal.{Refusal}
 use Rattle.check.specs.declared.words.Refusal.the-variants.{LimitReached, NoSuchRecord, UnknownClass, Row, Order}
 use Rattle.rows.specs.declared.words.Finding.{Finding}
 use Rattle.rows.specs.declared.words.Finding.the-variants.{Clear, Clash}
 use Rattle.check.specs.declared.words.Reply.{Reply}
-use Rattle.check.specs.declared.words.Reply.the-variants.{Opened, Closed, Found, Said, Number, OfKind, Refused}
+use Rattle.check.specs.declared.words.Reply.the-variants.{Opened, Closed, Found, Told, Refused}
 use Rattle.conversation.specs.declared.words.Exchange.{Exchange}
 use Rattle.rows.specs.declared.words.Leader.{Leader}
 use Rattle.rows.specs.declared.words.RowFault.the-variants.{Full}
 use Rattle.check.specs.Calls.{one-clash}
+use Rattle.check.specs.Puts.{question-told}
 use Rattle.conversation.specs.Leaders.{reached, leader}
 
 -- What stays as it is throughout: the event limit, the scope numbers that were left at the start, the number of records, and the rule.
@@ -86,22 +83,12 @@ access-reply s h c r =
     (Refused UnknownClass))
     (Refused NoSuchRecord)
 
-abbrev pub word-reply : History → ℕ → Option Kind → Reply
-word-reply h t None = Refused (Order NoSuchTask)
-word-reply h t (Some Finish) = Refused (Order NoSuchTask)
-word-reply h t (Some Task) = Said (word (place h t))
-
 abbrev pub reply-to : Setting → History → Call → Reply
 reply-to s h OpenTask = within-limit s h (open-reply s h)
 reply-to s h OpenFinish = within-limit s h (open-reply s h)
 reply-to s h Close = within-limit s h (close-reply h)
 reply-to s h (Access c r) = within-limit s h (access-reply s h c r)
-reply-to s h (Ask t) = word-reply h t (kind-of h t)
-reply-to s h InnermostTask = Number (innermost-task (scopes h))
-reply-to s h OpenCount = Number (length (scopes h))
-reply-to s h (KindOf n) = OfKind (kind-of h n)
-reply-to s h ScopesBegun = Number (begun h)
-reply-to s h NumbersLeft = Number ((s .numbers + 1) - begun h)
+reply-to s h (Ask q) = question-told (telling-past (s .numbers) h q)
 
 -- the event that a call is, if it is accepted
 abbrev pub event-of : Call → Option Event
@@ -109,20 +96,13 @@ event-of OpenTask = Some open-task
 event-of OpenFinish = Some open-finish
 event-of Close = Some close
 event-of (Access c r) = Some (access c r)
-event-of (Ask t) = None
-event-of InnermostTask = None
-event-of OpenCount = None
-event-of (KindOf n) = None
-event-of ScopesBegun = None
-event-of NumbersLeft = None
+event-of (Ask q) = None
 
 abbrev pub is-refusal : Reply → Bool
 is-refusal (Opened n) = false
 is-refusal (Closed n) = false
 is-refusal (Found f) = false
-is-refusal (Said w) = false
-is-refusal (Number n) = false
-is-refusal (OfKind k) = false
+is-refusal (Told a) = false
 is-refusal (Refused e) = true
 
 abbrev pub noted : Option Event → History → History

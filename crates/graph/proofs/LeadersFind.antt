@@ -1,4 +1,4 @@
--- Fact a: the check answers clash exactly when some earlier access clashes.
+-- A leader clashes exactly when some earlier access does.
 use mathlib.Core.Path.{_≡_, refl, sym, _∙_}
 use mathlib.Core.Logic.{_⊎_, inl, inr, ⊎-elim}
 use mathlib.Core.Bool.{Bool}

@@ -1,4 +1,4 @@
--- Fact c: two events that no path joins can be exchanged.
+-- Two events that no path joins stand side by side in two allowed orders, either way round.
 use mathlib.Core.Path.{_≡_, refl, sym, _∙_, subst, subst₂}
 use mathlib.Core.Logic.{_⊎_, inl, inr, _≢_, _↔_, ⊎-elim, ⊎-swap}
 use mathlib.Core.List.{List, [], _∷_, _++_}

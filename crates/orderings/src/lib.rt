@@ -1,8 +1,12 @@
 //! Orderings: which tasks of a plan are surely over before the next access, and which may still run beside it.
 mod ordering;
+mod questions;
 mod words;
 
 pub use ordering::Ordering;
+pub use questions::Question;
+pub use questions::Told;
+pub use questions::tell;
 pub use words::Code;
 pub use words::Fault;
 pub use words::Kind;
