@@ -21,7 +21,8 @@ use Rattle.rows.specs.declared.words.Finding.{Finding}
 use Rattle.check.specs.declared.words.Reply.{Reply}
 use Rattle.check.specs.declared.words.Reply.the-variants.{Opened, Closed, Found, Refused}
 use Rattle.conversation.specs.declared.words.Exchange.{Exchange}
-use Rattle.conversation.specs.Replies.{Setting, reply-to, is-refusal, event-of, noted, after, after-all, events, room-for, first-found}
+use Rattle.orderings.specs.Inquiries.{noted}
+use Rattle.conversation.specs.Replies.{Setting, reply-to, is-refusal, event-of, after, after-all, events, room-for, first-found}
 use Rattle.conversation.specs.Leaders.{reached}
 
 pub after-append : (xs ys : List Exchange) (h : History) → after-all (xs ++ ys) h ≡ after-all ys (after-all xs h)

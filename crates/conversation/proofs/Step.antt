@@ -35,7 +35,8 @@ use Rattle.check.specs.declared.words.Refusal.the-variants.{LimitReached, NoSuc
 use Rattle.check.specs.declared.words.Reply.{Reply}
 use Rattle.check.specs.declared.words.Reply.the-variants.{Opened, Closed, Found, Refused}
 use Rattle.conversation.specs.Leaders.{reached, row-of}
-use Rattle.conversation.specs.Replies.{Setting, reply-to, is-refusal, event-of, noted, room-for, first-found, accesses, clashes-found}
+use Rattle.orderings.specs.Inquiries.{noted}
+use Rattle.conversation.specs.Replies.{Setting, reply-to, is-refusal, event-of, room-for, first-found, accesses, clashes-found}
 use Rattle.check.specs.Calls.{View, from-order, from-row, one-more, access-answer, one-clash, one-access, access-rows}
 use Rattle.check.specs.Puts.{Store, open-told, close-told, access-told, question-told, reply-of, left-by}
 use Rattle.conversation.specs.State.{State}

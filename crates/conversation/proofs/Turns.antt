@@ -11,7 +11,8 @@ use Rattle.rows.specs.declared.row.Row.{Row}
 use Rattle.check.specs.declared.words.Call.{Call}
 use Rattle.check.specs.declared.words.Reply.{Reply}
 use Rattle.conversation.specs.declared.words.Exchange.{Exchange}
-use Rattle.conversation.specs.Replies.{Setting, reply-to, is-refusal, event-of, noted, after, after-all, events}
+use Rattle.orderings.specs.Inquiries.{noted}
+use Rattle.conversation.specs.Replies.{Setting, reply-to, is-refusal, event-of, after, after-all, events}
 use Rattle.conversation.specs.Theorem.{Replies-right, Comes}
 use Rattle.check.specs.Calls.{View}
 use Rattle.check.specs.Puts.{Store, reply-of, left-by}

@@ -8,6 +8,7 @@ use Rattle.std.specs.declared.option.Option.{Option}
 use Rattle.std.specs.declared.option.Option.the-variants.{Some, None}
 use Rattle.graph.specs.History.{Event, open-task, open-finish, close, access, History, begun, scopes, innermost, place, is-unordered}
 use Rattle.orderings.specs.declared.words.Fault.the-variants.{NoNumberLeft, MainAlone}
+use Rattle.orderings.specs.Inquiries.{noted}
 use Rattle.orderings.specs.Questions.{telling-past}
 use Rattle.check.specs.declared.words.Call.{Call}
 use Rattle.check.specs.declared.words.Call.the-variants.{OpenTask, OpenFinish, Close, Access, Ask}
@@ -104,10 +105,6 @@ is-refusal (Closed n) = false
 is-refusal (Found f) = false
 is-refusal (Told a) = false
 is-refusal (Refused e) = true
-
-abbrev pub noted : Option Event → History → History
-noted None h = h
-noted (Some e) h = e ∷ h
 
 -- the history after an exchange: a call that is not refused adds the event that it is
 abbrev pub after : Exchange → History → History

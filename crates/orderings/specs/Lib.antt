@@ -2,3 +2,4 @@ pub mod Meaning
 pub mod Numbers
 pub mod Past
 pub mod Questions
+pub mod Inquiries

@@ -1,8 +1,14 @@
 //! Orderings: which tasks of a plan are surely over before the next access, and which may still run beside it.
+mod inquiries;
 mod ordering;
 mod questions;
 mod words;
 
+pub use inquiries::Inquiry;
+pub use inquiries::Request;
+pub use inquiries::Response;
+pub use inquiries::inquire;
+pub use inquiries::put;
 pub use ordering::Ordering;
 pub use questions::Question;
 pub use questions::Told;
