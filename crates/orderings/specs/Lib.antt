@@ -3,3 +3,7 @@ pub mod Numbers
 pub mod Past
 pub mod Questions
 pub mod Inquiries
+pub mod Forest
+pub mod Store
+pub mod Sound
+pub mod Bags
