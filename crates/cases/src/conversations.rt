@@ -41,66 +41,77 @@ fn shown(reply: Reply) -> (char, u32, u32) {
     }
 }
 
+fn put(call: Call) -> Exchange {
+    Exchange {
+        call,
+        reply: Reply::Told(Told::Number(0)),
+    }
+}
+
 /// Puts the calls over bags on a table, and compares the replies.
 fn replies<R: ClashRule>(
     table: &mut [Entry],
     rule: &R,
     limit: u32,
-    calls: &[Call],
+    exchanges: &mut [Exchange],
     wanted: &[(char, u32, u32)],
 ) -> Result<(), Fail> {
-    let mut exchanges = [Exchange {
-        call: Call::Ask(Question::ScopesBegun),
-        reply: Reply::Told(Told::Number(0)),
-    }; 16];
-    let count = calls.len();
-    check(count <= 16 && count == wanted.len())?;
-    for (i, call) in calls.iter().enumerate() {
-        exchanges[i].call = *call;
-    }
+    check(exchanges.len() == wanted.len())?;
     let mut rows = [Row::EMPTY; 16];
     let mut bags = Bags::new(table);
-    check(converse(&mut bags, rule, &mut rows, limit, &mut exchanges[0..count]).is_ok())?;
-    for (i, want) in wanted.iter().enumerate() {
-        check_eq(shown(exchanges[i].reply), *want)?;
+    check(converse(&mut bags, rule, &mut rows, limit, exchanges).is_ok())?;
+    for (exchange, want) in exchanges.iter().zip(wanted.iter()) {
+        check_eq(shown(exchange.reply), *want)?;
     }
     Ok(())
 }
 
 #[test]
 fn a_ninth_class_is_refused() -> Result<(), Fail> {
-    let calls = [
-        Call::Access(0x01, 3),
-        Call::Access(0x02, 3),
-        Call::Access(0x03, 3),
-        Call::Access(0x04, 3),
-        Call::Access(0x05, 3),
-        Call::Access(0x06, 3),
-        Call::Access(0x07, 3),
-        Call::Access(0x08, 3),
-        Call::Access(0x09, 3),
-        Call::Access(0x01, 3),
+    let mut exchanges = [
+        put(Call::Access(0x01, 3)),
+        put(Call::Access(0x02, 3)),
+        put(Call::Access(0x03, 3)),
+        put(Call::Access(0x04, 3)),
+        put(Call::Access(0x05, 3)),
+        put(Call::Access(0x06, 3)),
+        put(Call::Access(0x07, 3)),
+        put(Call::Access(0x08, 3)),
+        put(Call::Access(0x09, 3)),
+        put(Call::Access(0x01, 3)),
     ];
     let mut wanted = [('-', 0, 0); 10];
     wanted[8] = ('r', 24, 3);
-    replies(&mut [Entry::EMPTY; 4], &Field {}, 1000000, &calls, &wanted)
+    replies(
+        &mut [Entry::EMPTY; 4],
+        &Field {},
+        1000000,
+        &mut exchanges,
+        &wanted,
+    )
 }
 
 #[test]
 fn a_table_of_one_entry_gives_one_number() -> Result<(), Fail> {
-    let calls = [Call::OpenTask, Call::Close, Call::OpenFinish];
+    let mut exchanges = [put(Call::OpenTask), put(Call::Close), put(Call::OpenFinish)];
     let wanted = [('o', 1, 0), ('c', 1, 0), ('r', 21, 4)];
-    replies(&mut [Entry::EMPTY; 1], &Plain {}, 1000000, &calls, &wanted)
+    replies(
+        &mut [Entry::EMPTY; 1],
+        &Plain {},
+        1000000,
+        &mut exchanges,
+        &wanted,
+    )
 }
 
 #[test]
 fn an_empty_table_serves_main() -> Result<(), Fail> {
-    let calls = [
-        Call::Ask(Question::NumbersLeft),
-        Call::OpenTask,
-        Call::Access(1, 5),
-        Call::Ask(Question::WordOf(0)),
-        Call::Close,
+    let mut exchanges = [
+        put(Call::Ask(Question::NumbersLeft)),
+        put(Call::OpenTask),
+        put(Call::Access(1, 5)),
+        put(Call::Ask(Question::WordOf(0))),
+        put(Call::Close),
     ];
     let wanted = [
         ('n', 0, 0),
@@ -109,17 +120,23 @@ fn an_empty_table_serves_main() -> Result<(), Fail> {
         ('b', 0, 0),
         ('r', 22, 4),
     ];
-    replies(&mut [Entry::EMPTY; 0], &Plain {}, 1000000, &calls, &wanted)
+    replies(
+        &mut [Entry::EMPTY; 0],
+        &Plain {},
+        1000000,
+        &mut exchanges,
+        &wanted,
+    )
 }
 
 #[test]
 fn the_limit_is_tested_first() -> Result<(), Fail> {
-    let calls = [
-        Call::OpenTask,
-        Call::Close,
-        Call::Close,
-        Call::Access(7, 99),
-        Call::Ask(Question::WordOf(1)),
+    let mut exchanges = [
+        put(Call::OpenTask),
+        put(Call::Close),
+        put(Call::Close),
+        put(Call::Access(7, 99)),
+        put(Call::Ask(Question::WordOf(1))),
     ];
     let wanted = [
         ('o', 1, 0),
@@ -128,22 +145,28 @@ fn the_limit_is_tested_first() -> Result<(), Fail> {
         ('r', 23, 3),
         ('u', 0, 0),
     ];
-    replies(&mut [Entry::EMPTY; 4], &Plain {}, 2, &calls, &wanted)
+    replies(
+        &mut [Entry::EMPTY; 4],
+        &Plain {},
+        2,
+        &mut exchanges,
+        &wanted,
+    )
 }
 
 #[test]
 fn every_question_is_answered() -> Result<(), Fail> {
-    let calls = [
-        Call::OpenFinish,
-        Call::OpenTask,
-        Call::Ask(Question::InnermostTask),
-        Call::Ask(Question::OpenCount),
-        Call::Ask(Question::ScopesBegun),
-        Call::Ask(Question::NumbersLeft),
-        Call::Ask(Question::KindOf(1)),
-        Call::Ask(Question::WordOf(1)),
-        Call::Ask(Question::WordOf(2)),
-        Call::Ask(Question::WordOf(3)),
+    let mut exchanges = [
+        put(Call::OpenFinish),
+        put(Call::OpenTask),
+        put(Call::Ask(Question::InnermostTask)),
+        put(Call::Ask(Question::OpenCount)),
+        put(Call::Ask(Question::ScopesBegun)),
+        put(Call::Ask(Question::NumbersLeft)),
+        put(Call::Ask(Question::KindOf(1))),
+        put(Call::Ask(Question::WordOf(1))),
+        put(Call::Ask(Question::WordOf(2))),
+        put(Call::Ask(Question::WordOf(3))),
     ];
     let wanted = [
         ('o', 1, 0),
@@ -157,7 +180,13 @@ fn every_question_is_answered() -> Result<(), Fail> {
         ('b', 0, 0),
         ('r', 12, 4),
     ];
-    replies(&mut [Entry::EMPTY; 8], &Plain {}, 1000000, &calls, &wanted)
+    replies(
+        &mut [Entry::EMPTY; 8],
+        &Plain {},
+        1000000,
+        &mut exchanges,
+        &wanted,
+    )
 }
 
 #[test]
