@@ -1,0 +1,5 @@
+pub mod Actions
+pub mod Numbers
+pub mod Reading
+pub mod Words
+pub mod Written

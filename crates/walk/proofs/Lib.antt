@@ -1,0 +1,4 @@
+pub mod Pairing
+pub mod Plainly
+pub mod Rightly
+pub mod Saying
