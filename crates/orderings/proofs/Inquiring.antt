@@ -56,10 +56,10 @@ after-more m [] x = refl
 after-more m (y ∷ xs) x = after-more (after-request m (y .request)) xs x
 
 -- one inquiry more
-pub one-turn : (m now-m next : Meaning) (xs : List Inquiry) (i : ℕ) (x : Inquiry) → i < length xs → x .response ≡ response-to now-m (x .request) → next ≡ after-request now-m (x .request) →
-    In-turn m (take i xs) × (now-m ≡ after-requests m (take i xs)) →
+pub one-turn : (m current next : Meaning) (xs : List Inquiry) (i : ℕ) (x : Inquiry) → i < length xs → x .response ≡ response-to current (x .request) → next ≡ after-request current (x .request) →
+    In-turn m (take i xs) × (current ≡ after-requests m (take i xs)) →
     In-turn m (take (i + 1) (set xs i x)) × (next ≡ after-requests m (take (i + 1) (set xs i x)))
-one-turn m now-m next xs i x l p q (t, e) =
+one-turn m current next xs i x l p q (t, e) =
     let T = take-more-set xs i x l in (
       subst⁻¹ (In-turn m) T (turn-more m (take i xs) x t (p ∙ ap (λ (v : Meaning). response-to v (x .request)) e)),
       q ∙ ap (λ (v : Meaning). after-request v (x .request)) e ∙ sym (after-more m (take i xs) x) ∙ ap (after-requests m) (sym T),
