@@ -7,3 +7,4 @@ pub mod Forest
 pub mod Store
 pub mod Sound
 pub mod Bags
+pub mod Formation

@@ -1,4 +1,6 @@
 //! Orderings: which tasks of a plan are surely over before the next access, and which may still run beside it.
+#![tactic(auto)]
+
 mod bags;
 mod inquiries;
 mod ordering;

@@ -8,7 +8,7 @@ ghost use Rattle.rules.specs.Numbers.{number_of, rule_of};
 ghost use Rattle.rules.specs.Any.{known_under, clash_under};
 ghost use Rattle.rules.specs.Words.{RulesInWords};
 ghost use Rattle.std.proofs.Common.{rules};
-ghost use Rattle.rules.specs.Clashes.{field_alike};
+ghost use Rattle.rules.specs.Clashes.{field_alike, any_alike};
 
 #[cfg(test)]
 mod tests;
@@ -188,6 +188,8 @@ impl ClashRule for Rule {
     ghost known = { known_under };
 
     ghost clash = { clash_under };
+
+    ghost alike = { any_alike };
 
     fn rule_number(&self) -> u32 {
         match self {

@@ -1,5 +1,6 @@
 //! The bags are an ordering.
 ghost use Rattle.orderings.specs.Bags.{meaning as meaning_of};
+ghost use Rattle.orderings.specs.Formation.{bags_formed};
 
 use crate::bags::Bags;
 use crate::ordering::Ordering;
@@ -9,6 +10,8 @@ impl<'t> Ordering for Bags<'t> {
     ghost meaning = { meaning_of };
 
     ghost sound = { λ _. Unit {0} };
+
+    ghost formed = { λ x _. bags_formed x };
 
     fn open_task(&mut self) -> Result<u32, Fault> {
         self.open_scope(Kind::Task)

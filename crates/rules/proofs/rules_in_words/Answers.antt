@@ -1,6 +1,6 @@
 use Rattle.std.proofs.Common.{arith}
 use Rattle.std.proofs.lemmas.Bool.Decides.{nat_tests}
-use Rattle.rules.specs.Clashes.{field_clash}
+use Rattle.rules.proofs.Clashes.{field_clash}
 use Rattle.rules.proofs.rules_in_words.Goals as goal
 
 pub returns : goal.returns

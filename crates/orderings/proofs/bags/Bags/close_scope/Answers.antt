@@ -58,14 +58,14 @@ pub returns : goal.returns
 returns c =
     let b = c.args.self.now in
     let es : List Entry = entries b.store in
-    let us : List Entry = entries c.pour-out.new.self in
-    let stay = c.pour-out.ensures.scopes in
-    let size = c.pour-out.ensures.size in
+    let us : List Entry = entries c.pour_out.new.self in
+    let stay = c.pour_out.ensures.scopes in
+    let size = c.pour_out.ensures.size in
     let cap = length b.store.table.now in
     let out : c.entry.result.outward ≡ (frames es).outward b.inner = ap (λ (e : Entry). e.outward) c.entry.ensures ∙ (λ j. (stay j).outward b.inner) in
     let K = closable b c.if-self-le1.false in
     record {
-      answer = sym (answer_after (frames es) (contents es) cap b.inner K (contents us) c.pour-out.ensures.bags cap);
-      after = (λ j. meaning_of (stay j) (contents us) (size j) b.begun (out j)) ∙ meaning_after (frames es) (contents es) cap b.inner K (contents us) c.pour-out.ensures.bags cap;
+      answer = sym (answer_after (frames es) (contents es) cap b.inner K (contents us) c.pour_out.ensures.bags cap);
+      after = (λ j. meaning_of (stay j) (contents us) (size j) b.begun (out j)) ∙ meaning_after (frames es) (contents es) cap b.inner K (contents us) c.pour_out.ensures.bags cap;
       refused = λ f e. let z : ◌≡◌ {A = ℕ} 0 1 = cc in absurd (omega arith);
     }

@@ -27,7 +27,7 @@ link-root-requires c =
     let parallel = parallel_linkable (frames es) (contents es) size s c.requires in
     let serial-in = serial.inside in
     let parallel-in = parallel.inside in
-    ((omega arith, omega arith), λ p. subst (λ (x : ℕ). (forest es).rank x < 255) (sym a) (serial.low (omega arith)))
+    (record { a_in_bounds = (omega arith, omega arith); a_bound = λ p. subst (λ (x : ℕ). (forest es).rank x < 255) (sym a) (serial.low (omega arith)) })
 
 pub pour-parallel-requires : goal.pour-parallel-requires
 pour-parallel-requires c =
@@ -70,9 +70,9 @@ returns-in-Task c =
     let links = c.link-root.ensures.bags ∙ (λ j. joined (contents es) (a j) (b j)) in
     let kind = sym (ap (λ (x : Entry). x.kind) c.entry-scope.ensures) ∙ c.in-Task.is in
     record {
-      bags = c.pour-parallel.ensures.bags ∙ (λ j. poured (links j) (2 * out j + 1) (root j)) ∙ sym (ap (λ (k : Kind). poured_by k (frames es) (contents es) s) kind);
-      scopes = c.pour-parallel.ensures.scopes ∙ c.link-root.ensures.scopes;
-      size = c.pour-parallel.ensures.size ∙ c.link-root.ensures.size;
+      bags = c.pour_parallel.ensures.bags ∙ (λ j. poured (links j) (2 * out j + 1) (root j)) ∙ sym (ap (λ (k : Kind). poured_by k (frames es) (contents es) s) kind);
+      scopes = c.pour_parallel.ensures.scopes ∙ c.link-root.ensures.scopes;
+      size = c.pour_parallel.ensures.size ∙ c.link-root.ensures.size;
     }
 
 pub returns-then-scope-ne0 : goal.returns-then-scope-ne0
@@ -85,10 +85,10 @@ returns-then-scope-ne0 c =
     let kind = sym (ap (λ (x : Entry). x.kind) c.entry-scope.ensures) ∙ c.in-Finish.is in
     record {
       bags =
-          c.pour-serial.ensures.bags ∙ (λ j. poured (contents es) (2 * within j) (b j))
+          c.pour_serial.ensures.bags ∙ (λ j. poured (contents es) (2 * within j) (b j))
           ∙ sym (ap (λ (k : Kind). poured_by k (frames es) (contents es) s) kind ∙ cond-false (eqb ((contents es).head (2 * s + 1)) 0) _ _ (ne_eqb ((contents es).head (2 * s + 1)) 0 (omega arith)));
-      scopes = c.pour-serial.ensures.scopes;
-      size = c.pour-serial.ensures.size;
+      scopes = c.pour_serial.ensures.scopes;
+      size = c.pour_serial.ensures.size;
     }
 
 pub returns-else-scope-ne0 : goal.returns-else-scope-ne0
