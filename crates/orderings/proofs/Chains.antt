@@ -1,16 +1,9 @@
 -- The chain of open scopes.
 use Rattle.std.proofs.Common.{◌≡◌, ℕ, zero, suc, ◌<◌, ◌≤◌, ◌≢◌, List, [], ◌∷◌, sym, refl, ap, ◌∙◌, subst, ⊎_elim, arith}
-use Rattle.std.proofs.lemmas.Bool.{eq-eqb, ne_eqb, cases_eq}
+use Rattle.std.proofs.lemmas.Bool.{cases_eq}
 use Rattle.orderings.specs.Store.{chain}
 use Rattle.orderings.specs.Sound.{Each}
-
-pub chain_main : (out : ℕ → ℕ) (f s : ℕ) → s ≡ 0 → chain out (suc f) s ≡ s ∷ []
-unfolding chain
-chain_main out f s e = rw (eq-eqb s 0 e, chain)
-
-pub chain_more : (out : ℕ → ℕ) (f s : ℕ) → s ≢ 0 → chain out (suc f) s ≡ s ∷ chain out f (out s)
-unfolding chain
-chain_more out f s e = rw (ne_eqb s 0 e, chain)
+use Rattle.orderings.specs.Chains.{chain_main, chain_more}
 
 module _ (out : ℕ → ℕ) (n : ℕ) (inward : (s : ℕ) → s < n → s ≢ 0 → out s < s) where
   -- more fuel than the number changes nothing

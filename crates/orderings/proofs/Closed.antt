@@ -15,7 +15,9 @@ use Rattle.orderings.specs.Bags.{place_in, place_of, begun_at, meaning_of}
 use Rattle.orderings.specs.Sound.{Live, Each, Sound, Closable}
 use Rattle.orderings.proofs.Chains.{each_chain}
 use Rattle.orderings.proofs.Pours.{Moved}
-use Rattle.orderings.proofs.Scopes.{place_serial, place_parallel, spot_in, cases_kind, task_finish, same_counted, scopes_of, innermost_is, innermost_task_is, within_task}
+use Rattle.orderings.proofs.Scopes.{place_serial, place_parallel, spot_in, cases_kind, same_counted, innermost_is, innermost_task_is, within_task}
+use Rattle.orderings.specs.Formation.{scopes_of}
+use Rattle.orderings.specs.Props.{task_finish}
 use Rattle.orderings.proofs.Closes.{not_main, outer_low, split}
 
 -- which bags move to q where the scope s closes

@@ -4,7 +4,8 @@ use Rattle.std.proofs.lemmas.Bool.{ne_eqb, cases_eq, or_from, both_ways}
 use Rattle.orderings.specs.Forest.{Forest, root, winner, linked}
 use Rattle.orderings.specs.Store.{Frames, Contents, joined, poured, chain}
 use Rattle.orderings.specs.Sound.{Live, Each, Closable}
-use Rattle.orderings.proofs.Chains.{chain_main, chain_split, each_first}
+use Rattle.orderings.proofs.Chains.{chain_split, each_first}
+use Rattle.orderings.specs.Chains.{chain_main}
 use Rattle.orderings.proofs.Merges.{Merged, merged_keeps, merged_more, link_merges}
 use Rattle.orderings.proofs.Pours.{Moved, head_test, moved_none, moved}
 use Rattle.orderings.proofs.Scopes.{each_within}

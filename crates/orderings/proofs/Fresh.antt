@@ -10,7 +10,7 @@ use Rattle.orderings.specs.Bags.{meaning_of}
 use Rattle.orderings.specs.Sound.{Sound}
 use Rattle.orderings.proofs.Sums.{upd_same, upd_other}
 use Rattle.orderings.proofs.Entries.{here, there, contents_set}
-use Rattle.orderings.proofs.Scopes.{task_finish}
+use Rattle.orderings.specs.Props.{task_finish}
 use Rattle.orderings.proofs.Opens.{FramedMore, FilledMore, sound_new, meaning_new}
 
 -- the entry of a new scope n

@@ -4,8 +4,8 @@ use Rattle.orderings.specs.declared.bags.entry.Entry.{Entry}
 use Rattle.orderings.specs.Store.{empty, frames, contents}
 use Rattle.orderings.specs.Sound.{Live, Each, Sound}
 use Rattle.orderings.proofs.Forests.{grown_main}
-use Rattle.orderings.proofs.Chains.{chain_main}
-use Rattle.orderings.proofs.Scopes.{task_finish}
+use Rattle.orderings.specs.Chains.{chain_main}
+use Rattle.orderings.specs.Props.{task_finish}
 
 pub sound_main : (t : List Entry) → Sound (frames (empty ∷ t)) (contents (empty ∷ t)) 1 0 1
 sound_main t =

@@ -12,8 +12,10 @@ use Rattle.orderings.specs.Store.{Frames, Contents, chain}
 use Rattle.orderings.specs.Bags.{place_in, place_of, begun_at, meaning_of}
 use Rattle.orderings.specs.Sound.{Framed, Live, Each, Sound}
 use Rattle.orderings.proofs.Forests.{Agree, grown_more, root_agree, root_self, root_inside, root_some}
-use Rattle.orderings.proofs.Chains.{chain_more, chain_agree, each_chain}
-use Rattle.orderings.proofs.Scopes.{place_serial, outer, same_counted, scopes_of, scopes_agree}
+use Rattle.orderings.proofs.Chains.{chain_agree, each_chain}
+use Rattle.orderings.specs.Chains.{chain_more}
+use Rattle.orderings.proofs.Scopes.{place_serial, outer, same_counted, scopes_agree}
+use Rattle.orderings.specs.Formation.{scopes_of}
 
 -- frames with a scope of kind k more, within the scope s
 pub record FramedMore (fr gr : Frames) (n s : ℕ) (k : Kind) : Type 0 where

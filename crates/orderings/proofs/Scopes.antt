@@ -10,7 +10,10 @@ use Rattle.orderings.specs.Meaning.{Begun, a_finish, at, scope_as, Fall}
 use Rattle.orderings.specs.Store.{Frames, chain}
 use Rattle.orderings.specs.Bags.{place_in}
 use Rattle.orderings.specs.Sound.{Framed, Each}
-use Rattle.orderings.proofs.Chains.{chain_main, chain_more, chain_first, chain_agree, each_first}
+use Rattle.orderings.specs.Chains.{chain_main, chain_more}
+use Rattle.orderings.specs.Props.{task_finish}
+use Rattle.orderings.specs.Formation.{number_as, scopes_of}
+use Rattle.orderings.proofs.Chains.{chain_first, chain_agree, each_first}
 
 -- the places that bags say
 pub place_serial : (t : ℕ) → place_in (2 * t) ≡ before t
@@ -25,9 +28,6 @@ spot_in k = ⊎_elim (λ e. ap spot (cond-true (eqb (k % 2) 0) _ _ e)) (λ e. ap
 pub cases_kind : (k : Kind) → (k ≡ Task) ⊎ (k ≡ Finish)
 cases_kind Task = inl refl
 cases_kind Finish = inr refl
-
-pub task_finish : (k : Kind) → k ≡ Task → k ≡ Finish → ⊥
-task_finish k t f = let z : ◌≡◌ {A = ℕ} 0 1 = cc in omega arith
 
 -- two lists by number are equal where they are at each number
 pub same_counted : (f g : ℕ → Begun) (n : ℕ) → ((i : ℕ) → i < n → f i ≡ g i) → map f (range_with_len 0 n) ≡ map g (range_with_len 0 n)
@@ -48,13 +48,6 @@ at_none f n i l = from 0 n i l
     from a zero i l = refl
     from a (suc n) zero l = absurd (omega arith)
     from a (suc n) (suc i) l = from (a + 1) n i (omega arith)
-
-number_as : (k : Kind) (s : ℕ) → number (scope_as k s) ≡ s
-number_as Task s = refl
-number_as Finish s = refl
-
-abbrev pub scopes_of : Frames → List ℕ → List Scope
-scopes_of fr ss = map (λ s. scope_as (fr.kind s) s) ss
 
 module _ (fr : Frames) (n : ℕ) (w : Framed fr n) where
   pub innermost_is : (f s : ℕ) → s < f → innermost (scopes_of fr (chain fr.outward f s)) ≡ s
@@ -100,28 +93,6 @@ module _ (fr : Frames) (n : ℕ) (w : Framed fr n) where
       ∙ ap (λ (k : Kind). innermost_task (scope_as k s ∷ scopes_of fr (chain fr.outward f (fr.outward s)))) t
       ∙ innermost_task_is f (fr.outward s) (omega arith) (omega arith) ∙ sym (w.lent s l t))
       (cases_kind (fr.kind s))
-
-  -- main is the outermost open scope
-  pub outermost_is : (f s : ℕ) → s < n → s < f → (inner : List Scope) × (scopes_of fr (chain fr.outward f s) ≡ inner ++ task 0 ∷ [])
-  outermost_is zero s l e = absurd (omega arith)
-  outermost_is (suc f) s l e =
-      ⊎_elim
-      (λ q. ([], ap (scopes_of fr) (chain_main fr.outward f s q) ∙ ap (λ (k : ℕ). scope_as (fr.kind k) k ∷ []) q ∙ ap (λ (k : Kind). scope_as k 0 ∷ []) w.main))
-      (λ q. let below = w.inward s l q in
-      let rest = outermost_is f (fr.outward s) (omega arith) (omega arith) in
-      (scope_as (fr.kind s) s ∷ rest.0, ap (scopes_of fr) (chain_more fr.outward f s q) ∙ ap (λ (ss : List Scope). scope_as (fr.kind s) s ∷ ss) rest.1))
-      (cases_eq s 0)
-
-  -- and the numbers fall outward
-  pub falls : (f s top : ℕ) → s < n → s < f → s < top → Fall top (scopes_of fr (chain fr.outward f s))
-  falls zero s top l e t = absurd (omega arith)
-  falls (suc f) s top l e t =
-      let self = number_as (fr.kind s) s in
-      ⊎_elim
-      (λ q. subst (λ (ss : List ℕ). Fall top (scopes_of fr ss)) (sym (chain_main fr.outward f s q)) (omega arith, tt))
-      (λ q. let below = w.inward s l q in
-      subst (λ (ss : List ℕ). Fall top (scopes_of fr ss)) (sym (chain_more fr.outward f s q)) (omega arith, falls f (fr.outward s) (number (scope_as (fr.kind s) s)) (omega arith) (omega arith) (omega arith)))
-      (cases_eq s 0)
 
   -- frames that agree below n have the same open scopes
   pub scopes_agree : (gr : Frames) → ((i : ℕ) → i < n → gr.kind i ≡ fr.kind i) → ((i : ℕ) → i < n → gr.outward i ≡ fr.outward i) → (f s : ℕ) → s < n → scopes_of gr (chain gr.outward f s) ≡ scopes_of fr (chain fr.outward f s)

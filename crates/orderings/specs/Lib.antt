@@ -8,3 +8,5 @@ pub mod Store
 pub mod Sound
 pub mod Bags
 pub mod Formation
+pub mod Chains
+pub mod Props

@@ -1,6 +1,6 @@
 //! The bags are an ordering.
 ghost use Rattle.orderings.specs.Bags.{meaning as meaning_of};
-ghost use Rattle.orderings.specs.Formation.{bags_formed};
+ghost use Rattle.orderings.specs.Formation.{formed_bags};
 
 use crate::bags::Bags;
 use crate::ordering::Ordering;
@@ -11,7 +11,7 @@ impl<'t> Ordering for Bags<'t> {
 
     ghost sound = { λ _. Unit {0} };
 
-    ghost formed = { λ x _. bags_formed x };
+    ghost formed = { λ x _. formed_bags x };
 
     fn open_task(&mut self) -> Result<u32, Fault> {
         self.open_scope(Kind::Task)

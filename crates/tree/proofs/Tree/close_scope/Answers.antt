@@ -27,11 +27,11 @@ low t more =
     let ne = inner_not_main (tree t) (marks (all t.nodes)) t.begun t.inner t.count (reveal_tree t.sound) t.innermost more in
     (omega arith, parent_low (tree t) (marks (all t.nodes)) t.begun t.inner t.count (reveal_tree t.sound) t.innermost more)
 
-pub overflow-sub-self : goal.overflow-sub-self
-overflow-sub-self c = (low c.args.self.now c.if-self-le1.false).0
+pub overflow_sub-self : goal.overflow_sub-self
+overflow_sub-self c = (low c.args.self.now c.if-self-le1.false).0
 
-pub invariant-of-self : goal.invariant-of-self
-invariant-of-self c =
+pub invariant_of-self : goal.invariant_of-self
+invariant_of-self c =
     let t = c.args.self.now in
     let es : List Node = all t.nodes in
     let below = low t c.if-self-le1.false in

@@ -5,8 +5,8 @@ use Rattle.scopes.specs.Frames.{chain}
 use Rattle.tree.proofs.Making.{sound_root}
 use Rattle.tree.proofs.Tree.new.Goals as goal
 
-pub invariant-of-result : goal.invariant-of-result
-invariant-of-result c = (omega arith, (omega arith, (omega arith, (omega arith, (omega arith, (∣ sound_root c.args.table.now ∣₁, tt))))))
+pub invariant_of-result : goal.invariant_of-result
+invariant_of-result c = (omega arith, (omega arith, (omega arith, (omega arith, (omega arith, (∣ sound_root c.args.table.now ∣₁, tt))))))
 
 pub returns : goal.returns
 unfolding chain

@@ -31,11 +31,11 @@ node-farther-requires c =
     let two = (up t c.node-parent.result.jump c.node-far.result c.node-far.ensures (omega arith)).0 in
     omega arith
 
-pub overflow-sub-parent : goal.overflow-sub-parent
-overflow-sub-parent c = let t = c.args.self.now in (up t t.inner c.node-parent.result c.node-parent.ensures t.innermost).1 c.node-far.result c.node-far.ensures
+pub overflow_sub-parent : goal.overflow_sub-parent
+overflow_sub-parent c = let t = c.args.self.now in (up t t.inner c.node-parent.result c.node-parent.ensures t.innermost).1 c.node-far.result c.node-far.ensures
 
-pub overflow-sub-far : goal.overflow-sub-far
-overflow-sub-far c =
+pub overflow_sub-far : goal.overflow_sub-far
+overflow_sub-far c =
     let t = c.args.self.now in
     let one = (up t t.inner c.node-parent.result c.node-parent.ensures t.innermost).0 in
     (up t c.node-parent.result.jump c.node-far.result c.node-far.ensures (omega arith)).1 c.node-farther.result c.node-farther.ensures

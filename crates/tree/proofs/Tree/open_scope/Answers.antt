@@ -29,20 +29,20 @@ fits t k w above j read within jump = record {
   jump = jump;
 }
 
-pub overflow-add-self : goal.overflow-add-self
-overflow-add-self c =
+pub overflow_add-self : goal.overflow_add-self
+overflow_add-self c =
     let t = c.args.self.now in
     let s = reveal_tree t.sound in
     let low = (leads (tree t) (marks (all t.nodes)) t.begun t.inner s.framed s.marked t.inner t.innermost).shallow in
     let read = ap (λ (x : Node). x.depth) c.node-above.ensures in
     omega arith
 
-pub invariant-of-self : goal.invariant-of-self
-invariant-of-self c =
+pub invariant_of-self : goal.invariant_of-self
+invariant_of-self c =
     let t = c.args.self.now in
-    let e : Node = new_node t c.args.kind c.match-kind.within c.node-above.result c.next-jump-jump.result in
-    let fit = fits t c.args.kind c.match-kind.within c.node-above.result c.next-jump-jump.result c.node-above.ensures
-    (elim c.match-kind.branch [ in-Task v ↦ inl (v.in-Task.is, v.within-is) | in-Finish v ↦ inr (v.in-Finish.is, v.within-is) ]) c.next-jump-jump.ensures in
+    let e : Node = new_node t c.args.kind c.match-kind.within c.node-above.result c.next_jump-jump.result in
+    let fit = fits t c.args.kind c.match-kind.within c.node-above.result c.next_jump-jump.result c.node-above.ensures
+    (elim c.match-kind.branch [ in-Task v ↦ inl (v.in-Task.is, v.within-is) | in-Finish v ↦ inr (v.in-Finish.is, v.within-is) ]) c.next_jump-jump.ensures in
     let put = entry_write t.nodes.main t.nodes.table.now t.begun no_node (λ _. e) (omega arith) in
     let size = length-set t.nodes.table.now (t.begun - 1) e in
     let sound = tree_opened (all t.nodes) t.begun t.inner t.count e (omega arith) t.innermost (reveal_tree t.sound) fit _ put in
@@ -53,9 +53,9 @@ returns c =
     let t = c.args.self.now in
     let n = t.begun in
     let cap = length t.nodes.table.now in
-    let e : Node = new_node t c.args.kind c.match-kind.within c.node-above.result c.next-jump-jump.result in
-    let fit = fits t c.args.kind c.match-kind.within c.node-above.result c.next-jump-jump.result c.node-above.ensures
-    (elim c.match-kind.branch [ in-Task v ↦ inl (v.in-Task.is, v.within-is) | in-Finish v ↦ inr (v.in-Finish.is, v.within-is) ]) c.next-jump-jump.ensures in
+    let e : Node = new_node t c.args.kind c.match-kind.within c.node-above.result c.next_jump-jump.result in
+    let fit = fits t c.args.kind c.match-kind.within c.node-above.result c.next_jump-jump.result c.node-above.ensures
+    (elim c.match-kind.branch [ in-Task v ↦ inl (v.in-Task.is, v.within-is) | in-Finish v ↦ inr (v.in-Finish.is, v.within-is) ]) c.next_jump-jump.ensures in
     let put = entry_write t.nodes.main t.nodes.table.now n no_node (λ _. e) (omega arith) in
     let size = length-set t.nodes.table.now (n - 1) e in
     let some = ne_eqb (min cap 65535 + 1 - n) 0 (omega arith) in

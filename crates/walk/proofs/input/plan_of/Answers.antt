@@ -7,7 +7,7 @@ use Rattle.walk.proofs.input.plan_of.Goals as goal
 
 pub returns-in-Ok : goal.returns-in-Ok
 returns-in-Ok c =
-    let v = c.in-ok-actions.actions in
+    let v = c.in_ok-actions.actions in
     let lent = c.read.new.actions in
     let plan = c.in-Ok.plan in
     let long : length lent ≡ vec_len v = c.read.auto.actions ∙ c.deref-mut.ensures.len in

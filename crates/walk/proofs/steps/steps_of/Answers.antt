@@ -8,7 +8,7 @@ pub loop-action-preserved : goal.loop-action-preserved
 loop-action-preserved c =
     let rest = c.loop-action.rest.now in
     let m = steps_more c.args.actions.now c.loop-action.action-index c.args.exchanges.now rest (vec_items c.loop-action.steps) c.loop-action.invariant _ _ c.loop-action-test.true (omega arith) in
-    rw (c.in-ok-push.ensures.items, c.number-told-task.ensures) m
+    rw (c.in_ok-push.ensures.items, c.number_told-task.ensures) m
 
 pub returns : goal.returns
 returns c =

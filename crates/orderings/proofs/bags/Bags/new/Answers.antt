@@ -5,8 +5,8 @@ use Rattle.orderings.specs.Store.{chain}
 use Rattle.orderings.proofs.Making.{sound_main}
 use Rattle.orderings.proofs.bags.Bags.new.Goals as goal
 
-pub invariant-of-result : goal.invariant-of-result
-invariant-of-result c = (omega arith, (omega arith, (omega arith, (omega arith, (omega arith, (∣ sound_main c.args.table.now ∣₁, tt))))))
+pub invariant_of-result : goal.invariant_of-result
+invariant_of-result c = record { some = omega arith; fewer = omega arith; room = omega arith; few = omega arith; innermost = omega arith; sound = ∣ sound_main c.args.table.now ∣₁ }
 
 pub returns : goal.returns
 unfolding chain

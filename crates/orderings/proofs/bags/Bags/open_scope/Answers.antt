@@ -7,13 +7,13 @@ use Rattle.orderings.specs.Meaning.{Meaning}
 use Rattle.orderings.specs.Store.{entries, frames}
 use Rattle.orderings.specs.Bags.{meaning}
 use Rattle.orderings.proofs.Entries.{table_set}
-use Rattle.orderings.proofs.Props.{reveal}
+use Rattle.orderings.specs.Props.{reveal}
 use Rattle.orderings.proofs.Fresh.{fresh, Within, sound_opened, meaning_opened}
 use Rattle.orderings.proofs.bags.Bags.open_scope.Goals.{in-Task, in-Finish}
 use Rattle.orderings.proofs.bags.Bags.open_scope.Goals as goal
 
-pub invariant-of-self : goal.invariant-of-self
-invariant-of-self c =
+pub invariant_of-self : goal.invariant_of-self
+invariant_of-self c =
     let b = c.args.self.now in
     let n = b.begun in
     let w = c.match-kind.within in
@@ -22,7 +22,14 @@ invariant-of-self c =
     let way : Within (frames es) k n b.inner w = elim c.match-kind.branch [ in-Task v ↦ inl (v.in-Task.is, v.within-is) | in-Finish v ↦ inr (v.in-Finish.is, v.within-is ∙ ap (λ (x : Entry). x.within) v.entry.ensures) ] in
     let put = table_set b.store.main b.store.table.now n (λ _. fresh k n b.inner w) (omega arith) in
     let size = length-set b.store.table.now (n - 1) (fresh k n b.inner w) in
-    (omega arith, (omega arith, (omega arith, (omega arith, (omega arith, (∣ sound_opened es n b.inner w k (omega arith) b.count (reveal b.sound) b.few b.innermost way _ put ∣₁, tt))))))
+    record {
+      some = omega arith;
+      fewer = omega arith;
+      room = omega arith;
+      few = omega arith;
+      innermost = omega arith;
+      sound = ∣ sound_opened es n b.inner w k (omega arith) b.count (reveal b.sound) b.few b.innermost way _ put ∣₁;
+    }
 
 pub returns : goal.returns
 returns c =

@@ -5,7 +5,7 @@ use Rattle.orderings.specs.Store.{entries, forest}
 use Rattle.orderings.proofs.Entries.{table_at}
 use Rattle.orderings.proofs.Climbs.{climb_top, climb_up}
 use Rattle.orderings.proofs.Forests.{rank_low}
-use Rattle.orderings.proofs.Props.{reveal}
+use Rattle.orderings.specs.Props.{reveal}
 use Rattle.orderings.proofs.bags.Bags.root.Goals as goal
 
 pub returns-then-parent-at : goal.returns-then-parent-at

@@ -6,7 +6,7 @@ use Rattle.orderings.specs.Store.{entries, forest, frames, contents}
 use Rattle.orderings.proofs.Asks.{asked_none, asked_main, asked_finish, asked_before, asked_unordered}
 use Rattle.orderings.proofs.Entries.{table_at}
 use Rattle.orderings.proofs.Forests.{shallow, root_some, root_inside}
-use Rattle.orderings.proofs.Props.{reveal}
+use Rattle.orderings.specs.Props.{reveal}
 use Rattle.orderings.proofs.bags.Bags.word_of.Goals as goal
 
 steps : (b : Bags) → Shallow (forest (entries b.store)) b.begun
@@ -25,8 +25,8 @@ returns-then-task-eq0 c =
     let z = c.if-task-eq0.true in
     record { answer = sym (asked_main (frames es) (contents es) b.begun c.args.task c.if-task-self.false (ap (frames es).kind z ∙ (reveal b.sound).framed.main) z); steps = steps b }
 
-pub overflow-sub-root : goal.overflow-sub-root
-overflow-sub-root c =
+pub overflow_sub-root : goal.overflow_sub-root
+overflow_sub-root c =
     let b = c.args.self.now in
     let some = root_some (forest (entries b.store)) b.begun (reveal b.sound).grown b.few c.args.task (omega arith) c.if-task-self.false in
     let is = c.root-root.ensures in

@@ -11,9 +11,9 @@ use Rattle.rows.proofs.row.Row.access.Goals as goal
 pub returns-then-i-eq-SLOTS : goal.returns-then-i-eq-SLOTS
 returns-then-i-eq-SLOTS g c =
     let few = le-leb c.args.self.now.count 8 c.if-self-gt-SLOTS.false in
-    let full = room_full c.args.«class» (filled c.args.self.now) (sym c.place-of-i.ensures ∙ c.if-i-eq-SLOTS.true) (filled_le c.args.self.now c.if-self-gt-SLOTS.false) in
+    let full = room_full c.args.«class» (filled c.args.self.now) (sym c.place_of-i.ensures ∙ c.if-i-eq-SLOTS.true) (filled_le c.args.self.now c.if-self-gt-SLOTS.false) in
     record {
-      answer = λ sound. (let whole = sym (c.if-not-is-whole.ensures sound) in simp (few, whole, full) refl);
+      answer = λ sound. (let whole = sym (c.if-not-is_whole.ensures sound) in simp (few, whole, full) refl);
       after = λ sound. refl;
       kept = λ sound. sound;
       same = λ sound. refl;
@@ -27,7 +27,7 @@ pub settle-requires : goal.settle-requires
 settle-requires g c =
     let f = filled_le c.args.self.now c.if-self-gt-SLOTS.false in
     let i = index_le c.args.«class» (filled c.args.self.now) in
-    record { count = c.if-self-gt-SLOTS.false; place = c.place-of-i.ensures; room = less c.place-of-i.result _ _ c.place-of-i.ensures i f c.if-i-eq-SLOTS.false }
+    record { count = c.if-self-gt-SLOTS.false; place = c.place_of-i.ensures; room = less c.place_of-i.result _ _ c.place_of-i.ensures i f c.if-i-eq-SLOTS.false }
 
 -- the access as a slot
 abbrev slot : ℕ → ℕ → ℕ → Slot
@@ -43,10 +43,10 @@ same_settled m n c e t row after q p s =
 pub returns : goal.returns
 returns g c =
     let few = le-leb c.args.self.now.count 8 c.if-self-gt-SLOTS.false in
-    let room = room_left c.args.«class» (filled c.args.self.now) (λ q. c.if-i-eq-SLOTS.false (c.place-of-i.ensures ∙ q)) (filled_le c.args.self.now c.if-self-gt-SLOTS.false) in
+    let room = room_left c.args.«class» (filled c.args.self.now) (λ q. c.if-i-eq-SLOTS.false (c.place_of-i.ensures ∙ q)) (filled_le c.args.self.now c.if-self-gt-SLOTS.false) in
     record {
-      answer = λ sound. (let whole = sym (c.if-not-is-whole.ensures sound) in simp (few, whole, room) (ap Ok (c.look-finding.ensures.answer sound)));
-      after = λ sound. same_settled (g.O.Ordering.meaning c.args.ordering.now) (g.O.Ordering.meaning c.look-finding.new.ordering) _ _ c.innermost-task-task.result c.args.self.now _ (c.look-finding.ensures.same sound) (c.innermost-task-task.ensures (c.look-finding.ensures.kept sound)) (c.settle.ensures.after (c.look-finding.ensures.kept sound));
+      answer = λ sound. (let whole = sym (c.if-not-is_whole.ensures sound) in simp (few, whole, room) (ap Ok (c.look-finding.ensures.answer sound)));
+      after = λ sound. same_settled (g.O.Ordering.meaning c.args.ordering.now) (g.O.Ordering.meaning c.look-finding.new.ordering) _ _ c.innermost_task-task.result c.args.self.now _ (c.look-finding.ensures.same sound) (c.innermost_task-task.ensures (c.look-finding.ensures.kept sound)) (c.settle.ensures.after (c.look-finding.ensures.kept sound));
       kept = λ sound. c.settle.ensures.kept (c.look-finding.ensures.kept sound);
       same = λ sound. c.settle.ensures.same (c.look-finding.ensures.kept sound) ∙ c.look-finding.ensures.same sound;
       refused = λ f e. (let z : ◌≡◌ {A = ℕ} 0 1 = cc in absurd (omega arith));

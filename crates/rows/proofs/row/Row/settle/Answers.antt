@@ -13,20 +13,20 @@ returns-then-i-self g c =
       same = λ sound. refl;
     }
 
-pub returns-then-not-is-unordered : goal.returns-then-not-is-unordered
-returns-then-not-is-unordered g c =
+pub returns-then-not-is_unordered : goal.returns-then-not-is_unordered
+returns-then-not-is_unordered g c =
     let n : c.args.self.now.count ≤ length c.args.self.now.slots = search rules in
     record {
-      after = λ sound. taken_over c.args.self.now n (is_unordered_in (g.O.Ordering.meaning c.args.ordering.now).begun) c.args.i c.args.access c.requires.place c.if-i-self.false (sym (c.if-not-is-unordered.ensures.answer sound));
+      after = λ sound. taken_over c.args.self.now n (is_unordered_in (g.O.Ordering.meaning c.args.ordering.now).begun) c.args.i c.args.access c.requires.place c.if-i-self.false (sym (c.if-not-is_unordered.ensures.answer sound));
       kept = c.is_unordered.ensures.kept;
       same = c.is_unordered.ensures.same;
     }
 
-pub returns-else-not-is-unordered : goal.returns-else-not-is-unordered
-returns-else-not-is-unordered g c =
+pub returns-else-not-is_unordered : goal.returns-else-not-is_unordered
+returns-else-not-is_unordered g c =
     let n : c.args.self.now.count ≤ length c.args.self.now.slots = search rules in
     record {
-      after = λ sound. stayed c.args.self.now n (is_unordered_in (g.O.Ordering.meaning c.args.ordering.now).begun) c.args.i c.args.access c.requires.place c.if-i-self.false (sym (c.if-not-is-unordered.ensures.answer sound));
+      after = λ sound. stayed c.args.self.now n (is_unordered_in (g.O.Ordering.meaning c.args.ordering.now).begun) c.args.i c.args.access c.requires.place c.if-i-self.false (sym (c.if-not-is_unordered.ensures.answer sound));
       kept = c.is_unordered.ensures.kept;
       same = c.is_unordered.ensures.same;
     }

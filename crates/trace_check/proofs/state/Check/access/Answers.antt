@@ -24,14 +24,14 @@ refused_by (Err f) out q e p = (f, refl)
 
 pub returns : goal.returns
 returns g c =
-    let out = c.by-row-answer.result in
+    let out = c.by_row-answer.result in
     let k = view c.args.self.now in
     let rows = c.args.rows.now in
     record {
-      answer = λ sound. answer_by k (g.O.Ordering.meaning c.args.ordering.now) rows c.args.«class» c.args.«record» (g.R.ClashRule.known c.args.rule.now) (g.R.ClashRule.clash c.args.rule.now) c.access.result out (sym c.if-not-has-room.ensures) c.if-record-rows.false (sym c.if-not-knows.ensures) c.by-row-answer.ensures (c.access.ensures.answer sound);
-      check = c.note-access.ensures;
+      answer = λ sound. answer_by k (g.O.Ordering.meaning c.args.ordering.now) rows c.args.«class» c.args.«record» (g.R.ClashRule.known c.args.rule.now) (g.R.ClashRule.clash c.args.rule.now) c.access.result out (sym c.if-not-has_room.ensures) c.if-record-rows.false (sym c.if-not-knows.ensures) c.by_row-answer.ensures (c.access.ensures.answer sound);
+      check = c.note_access.ensures;
       kept = c.access.ensures.kept;
       same = c.access.ensures.same;
-      rows = λ sound. rows_by k (g.O.Ordering.meaning c.args.ordering.now) rows c.args.«class» c.args.«record» c.access.result out _ c.by-row-answer.ensures (c.access.ensures.after sound);
-      refused = λ e p. (let f = refused_by c.access.result out c.by-row-answer.ensures e p in let h = c.access.ensures.refused f.0 f.1 in (h.1, ap (set rows c.args.«record») h.0 ∙ set-get_or rows c.args.«record» no_row));
+      rows = λ sound. rows_by k (g.O.Ordering.meaning c.args.ordering.now) rows c.args.«class» c.args.«record» c.access.result out _ c.by_row-answer.ensures (c.access.ensures.after sound);
+      refused = λ e p. (let f = refused_by c.access.result out c.by_row-answer.ensures e p in let h = c.access.ensures.refused f.0 f.1 in (h.1, ap (set rows c.args.«record») h.0 ∙ set-get_or rows c.args.«record» no_row));
     }

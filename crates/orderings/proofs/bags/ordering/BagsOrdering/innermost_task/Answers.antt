@@ -1,7 +1,7 @@
 use Rattle.std.proofs.Common.{sym, ap, ◌∙◌}
 use Rattle.orderings.specs.declared.bags.entry.Entry.{Entry}
 use Rattle.orderings.specs.Store.{entries, frames}
-use Rattle.orderings.proofs.Props.{reveal}
+use Rattle.orderings.specs.Props.{reveal}
 use Rattle.orderings.proofs.Scopes.{innermost_task_is}
 use Rattle.orderings.proofs.bags.ordering.BagsOrdering.innermost_task.Goals as goal
 

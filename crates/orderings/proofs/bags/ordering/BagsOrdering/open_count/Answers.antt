@@ -1,6 +1,6 @@
 use Rattle.std.proofs.Common.{sym, ◌∙◌}
 use Rattle.std.proofs.lemmas.List.{length-map}
-use Rattle.orderings.proofs.Props.{reveal}
+use Rattle.orderings.specs.Props.{reveal}
 use Rattle.orderings.proofs.bags.ordering.BagsOrdering.open_count.Goals as goal
 
 pub returns : goal.returns

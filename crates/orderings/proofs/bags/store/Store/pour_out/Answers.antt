@@ -27,10 +27,10 @@ link-root-requires c =
     let parallel = parallel_linkable (frames es) (contents es) size s c.requires in
     let serial-in = serial.inside in
     let parallel-in = parallel.inside in
-    (record { a_in_bounds = (omega arith, omega arith); a_bound = λ p. subst (λ (x : ℕ). (forest es).rank x < 255) (sym a) (serial.low (omega arith)) })
+    record { a_in_bounds = (omega arith, omega arith); a_bound = λ p. subst (λ (x : ℕ). (forest es).rank x < 255) (sym a) (serial.low (omega arith)) }
 
-pub pour-parallel-requires : goal.pour-parallel-requires
-pour-parallel-requires c =
+pub pour_parallel-requires : goal.pour_parallel-requires
+pour_parallel-requires c =
     let es : List Entry = entries c.args.self.now in
     let s = c.args.s in
     let size = length c.args.self.now.table.now in
@@ -40,13 +40,14 @@ pour-parallel-requires c =
     let root = c.link-root.ensures.answer ∙ (λ j. winner (forest es) (a j) (b j)) in
     let same = c.link-root.ensures.size in
     let outer = outer_inside (frames es) (contents es) size s c.requires in
-    let own = own_root_inside (frames es) (contents es) size s c.requires in (
-      (omega arith, (omega arith, (omega arith, omega arith))),
-      linkable_same _ _ _ _ _ _ (c.link-root.ensures.bags ∙ (λ j. joined (contents es) (a j) (b j))) (ap (λ (x : ℕ). 2 * x + 1) out) same (outer_linkable (frames es) (contents es) size s c.requires),
-    )
+    let own = own_root_inside (frames es) (contents es) size s c.requires in
+    record {
+      s_in_bounds = (omega arith, (omega arith, (omega arith, omega arith)));
+      linkable = linkable_same _ _ _ _ _ _ (c.link-root.ensures.bags ∙ (λ j. joined (contents es) (a j) (b j))) (ap (λ (x : ℕ). 2 * x + 1) out) same (outer_linkable (frames es) (contents es) size s c.requires);
+    }
 
-pub pour-serial-requires : goal.pour-serial-requires
-pour-serial-requires c =
+pub pour_serial-requires : goal.pour_serial-requires
+pour_serial-requires c =
     let es : List Entry = entries c.args.self.now in
     let s = c.args.s in
     let size = length c.args.self.now.table.now in
@@ -54,10 +55,11 @@ pour-serial-requires c =
     let out = ap (λ (x : Entry). x.outward) c.entry-scope.ensures in
     let within = ap (λ (x : Entry). x.within) c.entry-task.ensures ∙ ap (frames es).within out in
     let task = task_inside (frames es) (contents es) size s c.requires in
-    let parallel = (parallel_linkable (frames es) (contents es) size s c.requires).inside in (
-      (omega arith, (omega arith, (omega arith, omega arith))),
-      linkable_same _ _ _ _ _ _ refl (ap (λ (x : ℕ). 2 * x) within) refl (task_linkable (frames es) (contents es) size s c.requires),
-    )
+    let parallel = (parallel_linkable (frames es) (contents es) size s c.requires).inside in
+    record {
+      s_in_bounds = (omega arith, (omega arith, (omega arith, omega arith)));
+      linkable = linkable_same _ _ _ _ _ _ refl (ap (λ (x : ℕ). 2 * x) within) refl (task_linkable (frames es) (contents es) size s c.requires);
+    }
 
 pub returns-in-Task : goal.returns-in-Task
 returns-in-Task c =

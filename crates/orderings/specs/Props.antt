@@ -1,5 +1,5 @@
 -- That bags are sound has one proof at most, so the fact can be had back from the ghost field.
-use Rattle.std.proofs.Common.{◌≡◌, ℕ, ◌+◌, ◌*◌, List, [], ◌∷◌, sym, refl}
+use Rattle.std.proofs.Common.{◌≡◌, ℕ, ◌+◌, ◌*◌, List, [], ◌∷◌, sym, refl, arith}
 use mathlib.Core.HLevel.{Discrete, hedberg, Π_prop, ×_prop, Unit-prop}
 use mathlib.Core.Logic.{∥∥₁_elim}
 use native.Mathlib.Bridge.{le_prop}
@@ -9,7 +9,9 @@ use Rattle.orderings.specs.declared.words.Kind.TheVariants.{Task, Finish}
 use Rattle.orderings.specs.Forest.{Forest, Grown}
 use Rattle.orderings.specs.Store.{Frames, Contents, chain}
 use Rattle.orderings.specs.Sound.{Framed, Live, Each, Sound}
-use Rattle.orderings.proofs.Scopes.{task_finish}
+
+pub task_finish : (k : Kind) → k ≡ Task → k ≡ Finish → ⊥
+task_finish k t f = let z : ◌≡◌ {A = ℕ} 0 1 = cc in omega arith
 
 kind_discrete : Discrete Kind
 kind_discrete Task Task = yes refl
