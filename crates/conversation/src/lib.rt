@@ -1,4 +1,5 @@
 //! A whole conversation with a check: a list of calls, and what is proved of every such list.
+#![tactic(auto)]
 ghost use Rattle.std.specs.Prelude.{◌≡◌, Err};
 ghost use Rattle.trace_check.specs.Calls.{view};
 ghost use Rattle.trace_check.specs.Puts.{store};

@@ -1,4 +1,5 @@
 //! The check of a plan's trace, over any ordering and any clash rule.
+#![tactic(auto)]
 mod calls;
 mod puts;
 mod state;
