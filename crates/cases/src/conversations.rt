@@ -1,11 +1,11 @@
 //! Lists of calls, and the reply to each.
-use trace_check::{Call, Reply};
 use conversation::{Exchange, converse};
 use orderings::{Bags, Entry, Fault, Kind, Ordering, Question, Told, Word};
 use rows::{Finding, Row};
 use rules::{ClashRule, Field, Plain};
 use std::process::Abort;
 use std::test::Fail;
+use trace_check::{Call, Reply};
 
 /// A reply as it is compared: a letter for what it is, and its numbers.
 fn shown(reply: Reply) -> (char, u32, u32) {

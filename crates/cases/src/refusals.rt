@@ -1,9 +1,9 @@
 //! Each refusal of the check by the state that brings it about, and the order in which they are tested.
-use trace_check::Check;
 use orderings::{Bags, Entry, Ordering};
 use rows::{Row, Slot};
 use rules::Plain;
 use std::test::Fail;
+use trace_check::Check;
 
 /// The number of a refused start, or 0.
 fn start_number(bags: &Bags, rows: &mut [Row], limit: u32) -> u8 {
