@@ -2,7 +2,7 @@
 use Rattle.std.proofs.Common.{◌≡◌, ℕ, ◌<◌, Bool, true, false, cond, T, ltb, leb, ◌≢◌, ◌⊎◌, List, [], ◌∷◌, ◌++◌, length, Some, Ok, Err, Result, sym, refl, ap, ◌∙◌, subst, inl, inr, ⊎_elim, append_assoc, arith}
 use mathlib.Core.Path.{subst⁻¹}
 use Rattle.rules.specs.Rules.{depot}
-use Rattle.graph.specs.History.{access, History, begun, scopes, innermost}
+use Rattle.graph.specs.History.{access, History, begun, scopes}
 use Rattle.graph.specs.Graph.{Put, Path, newest, older, IsAccess}
 use Rattle.graph.specs.Orders.{Exchangeable}
 use Rattle.graph.specs.Leaders.{AccessClashes}

@@ -1,13 +1,13 @@
 -- The slots that a history gives are the leaders of the classes that reached the record, in the order of their first access.
-use Rattle.std.proofs.Common.{◌≡◌, ℕ, ◌-◌, Bool, true, false, cond, ◌&&◌, eqb, ltb, ◌≢◌, List, [], ◌∷◌, ◌++◌, map, length, take, replicate, Some, None, Option, sym, refl, ap, ◌∙◌, inl, inr, eq-eqb, ne_eqb, eqb-true}
+use Rattle.std.proofs.Common.{◌≡◌, ℕ, ◌-◌, Bool, true, false, cond, ◌&&◌, eqb, ltb, ◌≢◌, List, [], ◌∷◌, ◌++◌, map, length, replicate, Some, Option, sym, refl, ap, ◌∙◌, inl, inr, eq-eqb, ne_eqb, eqb-true}
 use borrow.Author.Tests.{eqb-false}
 use Rattle.std.proofs.lemmas.List.{length-map, take_at}
-use Rattle.graph.specs.History.{open_task, open_finish, close, access, History, scopes, innermost_task, place, is_unordered}
+use Rattle.graph.specs.History.{open_task, open_finish, close, access, History, scopes, innermost_task}
 use Rattle.rows.specs.declared.row.Row.{Row}
 use Rattle.rows.specs.declared.row.Slot.{Slot}
 use Rattle.rows.specs.declared.words.Leader.{Leader}
 use Rattle.rows.specs.declared.words.Finding.{Finding}
-use Rattle.rows.specs.declared.words.Finding.TheVariants.{Clear, Clash}
+use Rattle.rows.specs.declared.words.Finding.TheVariants.{Clash}
 use Rattle.rows.specs.Slots.{holds_class, has_room, leader_in, led_by, first_clash, settled}
 use Rattle.rows.specs.Rows.{no_slot, filled}
 use Rattle.conversation.specs.Leaders.{with_class, reached, newest, taken_over, leader, slot_of, slots_of, row_of}

@@ -1,9 +1,8 @@
 -- The slots that a history gives are whole, and the ordering's meaning answers for the history.
-use Rattle.std.proofs.Common.{◌≡◌, ℕ, suc, ◌<◌, ◌≤◌, Bool, true, false, cond, ◌&&◌, T, eqb, ltb, List, [], ◌∷◌, length, Some, None, Option, sym, refl, ap, ◌∙◌, inl, inr, arith, ltb-true, lt-ltb, eqb-true}
+use Rattle.std.proofs.Common.{◌≡◌, ℕ, suc, ◌<◌, ◌≤◌, Bool, true, false, cond, ◌&&◌, T, eqb, ltb, List, [], ◌∷◌, length, Some, Option, refl, ap, ◌∙◌, inl, inr, arith, ltb-true, lt-ltb, eqb-true}
 use Rattle.graph.specs.History.{Event, open_task, open_finish, close, access, History, scopes, innermost_task, Place, before, unordered, place}
-use Rattle.orderings.specs.declared.words.Kind.{Kind}
-use Rattle.orderings.specs.declared.words.Kind.TheVariants.{Task, Finish}
-use Rattle.orderings.specs.Meaning.{Meaning, Begun, kind, kind_at, asked, word_of}
+use Rattle.orderings.specs.declared.words.Kind.TheVariants.{Task}
+use Rattle.orderings.specs.Meaning.{Meaning, Begun, kind_at, word_of}
 use Rattle.orderings.specs.Past.{kind_of, as_begun, Means}
 use Rattle.orderings.proofs.Means.{kind_stays, kind_innermost}
 use Rattle.orderings.proofs.Telling.{kind_as}
@@ -11,7 +10,7 @@ use Rattle.rows.specs.declared.row.Slot.{Slot}
 use Rattle.rows.specs.declared.words.Finding.{Finding}
 use Rattle.rows.specs.declared.words.Finding.TheVariants.{Clash}
 use Rattle.rows.specs.Slots.{holds_class, has_room, first_clash, settled}
-use Rattle.rows.specs.Rows.{is_unordered_in, says_unordered, says_task, slot_whole, slots_whole}
+use Rattle.rows.specs.Rows.{is_unordered_in, says_unordered, says_task, slots_whole}
 use Rattle.conversation.specs.Replies.{Setting}
 use Rattle.conversation.proofs.RowsLead.{is_free, slot, settle, row, Holds, Once}
 use Rattle.conversation.proofs.Runs.{Good}

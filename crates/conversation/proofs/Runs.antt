@@ -1,9 +1,9 @@
 -- Conversations: the events of a part, the exchange that an event comes from, and what the replies let into the history.
-use Rattle.std.proofs.Common.{◌≡◌, ℕ, ◌<◌, Bool, true, false, cond, T, ltb, ◌⊎◌, List, [], ◌∷◌, ◌++◌, length, Some, None, Option, sym, refl, ap, ◌∙◌, subst, inl, inr, ⊎_elim, arith, ltb→lt}
+use Rattle.std.proofs.Common.{◌≡◌, ℕ, ◌<◌, Bool, true, false, cond, T, ltb, ◌⊎◌, List, [], ◌∷◌, ◌++◌, length, Some, None, Option, sym, refl, ap, ◌∙◌, inl, inr, ⊎_elim, arith, ltb→lt}
 use mathlib.Core.Path.{subst⁻¹}
 use Rattle.graph.specs.History.{Event, open_task, open_finish, close, access, History, Accepted, scopes, innermost}
 use Rattle.graph.specs.Graph.{Put, Path, newest, older}
-use Rattle.graph.proofs.OpenScopes.{Tail, same, more, put_lt}
+use Rattle.graph.proofs.OpenScopes.{Tail, same, more}
 use Rattle.graph.proofs.LeadersDecide.{put_cases}
 use Rattle.graph.proofs.Arrows.{path_older, path_cases}
 use Rattle.trace_check.specs.declared.words.Call.{Call}
@@ -11,10 +11,10 @@ use Rattle.trace_check.specs.declared.words.Call.TheVariants.{OpenTask, OpenFini
 use Rattle.trace_check.specs.declared.words.Refusal.{Refusal}
 use Rattle.rows.specs.declared.words.Finding.{Finding}
 use Rattle.trace_check.specs.declared.words.Reply.{Reply}
-use Rattle.trace_check.specs.declared.words.Reply.TheVariants.{Opened, Closed, Found, Refused}
+use Rattle.trace_check.specs.declared.words.Reply.TheVariants.{Closed, Found, Refused}
 use Rattle.conversation.specs.declared.words.Exchange.{Exchange}
 use Rattle.orderings.specs.Inquiries.{noted}
-use Rattle.conversation.specs.Replies.{Setting, reply_to, is_refusal, event_of, after, after_all, events, room_for, first_found}
+use Rattle.conversation.specs.Replies.{Setting, reply_to, is_refusal, event_of, after, after_all, room_for, first_found}
 use Rattle.conversation.specs.Leaders.{reached}
 
 pub after_append : (xs ys : List Exchange) (h : History) → after_all (xs ++ ys) h ≡ after_all ys (after_all xs h)

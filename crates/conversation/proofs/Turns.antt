@@ -1,5 +1,5 @@
 -- The replies in turn.
-use Rattle.std.proofs.Common.{◌≡◌, ℕ, ◌+◌, ◌<◌, Bool, cond, List, [], ◌∷◌, ◌++◌, length, get_or, take, set, sym, refl, ap, ◌∙◌, subst}
+use Rattle.std.proofs.Common.{◌≡◌, ℕ, ◌+◌, ◌<◌, cond, List, [], ◌∷◌, ◌++◌, length, get_or, take, set, sym, ap, ◌∙◌, subst}
 use mathlib.Core.Path.{subst⁻¹}
 use Rattle.std.proofs.lemmas.List.{take_more_set, map-set, set-get_or}
 use Rattle.graph.specs.History.{History}
@@ -10,7 +10,7 @@ use Rattle.trace_check.specs.declared.words.Reply.{Reply}
 use Rattle.conversation.specs.declared.words.Exchange.{Exchange}
 use Rattle.orderings.specs.Inquiries.{noted}
 use Rattle.conversation.specs.Replies.{Setting, reply_to, is_refusal, event_of, after, after_all, events}
-use Rattle.conversation.specs.Theorem.{RepliesRight, Comes}
+use Rattle.conversation.specs.Theorem.{RepliesRight}
 use Rattle.trace_check.specs.Calls.{View}
 use Rattle.trace_check.specs.Puts.{Store, reply_of, left_by}
 use Rattle.conversation.specs.State.{State}

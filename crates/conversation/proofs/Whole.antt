@@ -1,5 +1,5 @@
 -- The whole conversation, from its start to its end.
-use Rattle.std.proofs.Common.{◌≡◌, ℕ, Bool, true, false, cond, ◌&&◌, eqb, leb, List, [], length, replicate, Ok, Err, sym, refl, ap, ◌∙◌, subst, arith, eqb-true}
+use Rattle.std.proofs.Common.{◌≡◌, ℕ, Bool, true, false, cond, ◌&&◌, eqb, List, [], length, replicate, Ok, Err, sym, refl, ap, ◌∙◌, subst, arith, eqb-true}
 use mathlib.Core.Path.{subst⁻¹}
 use Rattle.std.proofs.lemmas.List.{get_or-replicate, length-replicate}
 use Rattle.graph.specs.History.{History, Scope, scopes}

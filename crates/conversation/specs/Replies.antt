@@ -6,7 +6,6 @@ use Rattle.orderings.specs.Inquiries.{noted}
 use Rattle.orderings.specs.Questions.{telling_past}
 use Rattle.trace_check.specs.declared.words.Call.{Call}
 use Rattle.trace_check.specs.declared.words.Call.TheVariants.{OpenTask, OpenFinish, Close, Access, Ask}
-use Rattle.trace_check.specs.declared.words.Refusal.{Refusal}
 use Rattle.trace_check.specs.declared.words.Refusal.TheVariants.{LimitReached, NoSuchRecord, UnknownClass, Row, Order}
 use Rattle.rows.specs.declared.words.Finding.{Finding}
 use Rattle.rows.specs.declared.words.Finding.TheVariants.{Clear, Clash}

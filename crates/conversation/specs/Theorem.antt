@@ -1,17 +1,15 @@
 -- What holds of a conversation with a check.
-use Rattle.std.specs.Prelude.{◌≡◌, ℕ, ◌<◌, Bool, true, false, T, ◌≢◌, ◌↔◌, List, [], ◌∷◌, ◌++◌, length}
+use Rattle.std.specs.Prelude.{◌≡◌, ℕ, ◌<◌, T, ◌≢◌, ◌↔◌, List, ◌∷◌, ◌++◌, length}
 use Rattle.graph.specs.History.{History}
 use Rattle.graph.specs.Graph.{Path, IsAccess}
 use Rattle.graph.specs.Orders.{Exchangeable}
 use Rattle.graph.specs.Reads.{SameReads}
 use Rattle.rules.specs.Rules.{depot}
-use Rattle.trace_check.specs.declared.words.Call.{Call}
 use Rattle.trace_check.specs.declared.words.Call.TheVariants.{Access}
 use Rattle.trace_check.specs.declared.words.Refusal.TheVariants.{Row}
 use Rattle.rows.specs.declared.words.RowFault.TheVariants.{Damaged}
 use Rattle.rows.specs.declared.words.Finding.{Finding}
 use Rattle.rows.specs.declared.words.Finding.TheVariants.{Clear, Clash}
-use Rattle.trace_check.specs.declared.words.Reply.{Reply}
 use Rattle.trace_check.specs.declared.words.Reply.TheVariants.{Found, Refused}
 use Rattle.conversation.specs.declared.words.Exchange.{Exchange}
 use Rattle.conversation.specs.Replies.{Setting, reply_to, events}

@@ -8,7 +8,6 @@ use Rattle.trace_check.specs.declared.words.Call.{Call}
 use Rattle.trace_check.specs.declared.words.Call.TheVariants.{OpenTask, OpenFinish, Close, Access}
 use Rattle.trace_check.specs.declared.words.Refusal.TheVariants.{LimitReached, Row, Order}
 use Rattle.rows.specs.declared.words.RowFault.TheVariants.{Full}
-use Rattle.rows.specs.declared.words.Finding.{Finding}
 use Rattle.rows.specs.declared.words.Finding.TheVariants.{Clear, Clash}
 use Rattle.trace_check.specs.declared.words.Reply.{Reply}
 use Rattle.trace_check.specs.declared.words.Reply.TheVariants.{Opened, Closed, Found, Refused}

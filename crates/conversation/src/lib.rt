@@ -1,15 +1,16 @@
 //! A whole conversation with a check: a list of calls, and what is proved of every such list.
 #![tactic(auto)]
+
 ghost use Rattle.std.specs.Prelude.{◌≡◌, Err};
 ghost use Rattle.trace_check.specs.Calls.{view};
 ghost use Rattle.trace_check.specs.Puts.{store};
 ghost use Rattle.conversation.specs.State.{Ran};
 ghost use Rattle.conversation.specs.Conversation.{calls_of, setting, end_answer, Conversed};
 
-use trace_check::{Check, Refusal};
 use orderings::Ordering;
 use rows::Row;
 use rules::ClashRule;
+use trace_check::{Check, Refusal};
 
 mod theorem;
 mod words;

@@ -1,13 +1,13 @@
 -- What one event more does to the graph: the arrows and paths among the older events stay, and these lead to the new one.
 use mathlib.Core.Path.{◌≡◌, refl, sym, ◌∙◌, subst, subst⁻¹, ap}
 use mathlib.Core.Logic.{◌⊎◌, inl, inr, ◌≢◌, ◌↔◌, ⊎_elim}
-use mathlib.Core.List.{List, [], ◌∷◌, ◌++◌}
-use Prim.Native.Nat.{ℕ, suc, ◌<◌, ◌≤◌}
+use mathlib.Core.List.{List, ◌∷◌}
+use Prim.Native.Nat.{ℕ, ◌<◌, ◌≤◌}
 use native.Mathlib.Omega.{arith}
 use lib.ListN.{length}
-use Rattle.graph.specs.History.{Event, open_task, open_finish, close, access, History, Scope, task, finish, number, begun, outward, scopes, innermost, innermost_task, InnermostFinish}
-use Rattle.graph.specs.Graph.{Put, newest, older, Of, Opens, Closes, Within, Arrow, continue, spawn, join, Path, arrow, ◌then◌}
-use Rattle.graph.proofs.OpenScopes.{Falling, falling, On, on_below, task_below, begun_pos, finish_on, begun_mono, put_lt, put_tail, put_past}
+use Rattle.graph.specs.History.{Event, open_task, close, History, Scope, task, finish, number, begun, scopes, innermost_task}
+use Rattle.graph.specs.Graph.{newest, older, Of, Opens, Closes, Within, Arrow, continue, spawn, join, Path, arrow, ◌then◌}
+use Rattle.graph.proofs.OpenScopes.{falling, On, on_below, task_below, begun_pos, finish_on, begun_mono, put_lt, put_tail, put_past}
 use Rattle.graph.proofs.PathsRise.{opened_first, arrow_up, arrow_end, path_up, path_end}
 use Rattle.graph.proofs.LeadersDecide.{put_cases}
 

@@ -2,19 +2,19 @@
 use mathlib.Core.Path.{◌≡◌, refl, sym, ◌∙◌, subst, subst⁻¹, ap}
 use mathlib.Core.Logic.{◌⊎◌, inl, inr, ◌≢◌, ◌↔◌, ⊎_elim}
 use mathlib.Core.List.{List, [], ◌∷◌, ◌++◌}
-use Prim.Native.Nat.{ℕ, zero, suc, ◌<◌, ◌≤◌}
+use Prim.Native.Nat.{ℕ, zero, suc, ◌<◌}
 use native.Mathlib.Omega.{arith}
 use native.Mathlib.Decide.{ℕ_discrete}
 use lib.ListN.{length}
-use Rattle.graph.specs.History.{Event, open_task, open_finish, close, access, History, Scope, task, finish, begun, outward, scopes, innermost_task, Accepted, place, before, unordered, Before, Unordered}
-use Rattle.graph.specs.Graph.{Put, newest, older, Of, Path}
+use Rattle.graph.specs.History.{Event, open_task, open_finish, close, access, History, Scope, task, finish, begun, outward, scopes, innermost_task, Accepted, Before, Unordered}
+use Rattle.graph.specs.Graph.{Of, Path}
 use Rattle.graph.specs.Orders.{In, Ahead, Allowed, Listed, Exchangeable}
 use Rattle.graph.specs.Theorems.{ExchangeExact}
 use Rattle.graph.proofs.OpenScopes.{falling, On, ordered}
 use Rattle.graph.proofs.Places.{main_open, task_on, task_max, Placed, placed}
 use Rattle.graph.proofs.PathsRise.{path_up, path_end}
-use Rattle.graph.proofs.Arrows.{of_older, of_newest, of_lt, Next, Upto, path_older, path_cases, next_own, next_own_is}
-use Rattle.graph.proofs.RightPaths.{Right, Reach, Under, before_is_not, quiet, to_newest}
+use Rattle.graph.proofs.Arrows.{of_older, of_newest, path_older, path_cases, next_own, next_own_is}
+use Rattle.graph.proofs.RightPaths.{Reach, before_is_not, quiet, to_newest}
 use Rattle.graph.proofs.RightCloses.{tops_differ}
 use Rattle.graph.proofs.WordsArePaths.{right, word}
 use Rattle.graph.proofs.SwappedOrders.{in_append, in_left, in_right, ahead_append, swapped_orders}

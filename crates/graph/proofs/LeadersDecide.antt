@@ -1,18 +1,17 @@
 -- The leader of a class is unordered whenever any access of the class is.
 use mathlib.Core.Path.{◌≡◌, refl, sym, ◌∙◌, subst, subst⁻¹, subst₂, ap}
-use mathlib.Core.Logic.{◌⊎◌, inl, inr, ◌≢◌, ◌↔◌, ⊎_elim}
-use mathlib.Core.Bool.{Bool, true, false, cond}
-use mathlib.Core.List.{List, [], ◌∷◌, ◌++◌}
-use Prim.Native.Nat.{ℕ, suc, ◌<◌, ◌≤◌}
+use mathlib.Core.Logic.{◌⊎◌, inl, inr, ◌≢◌, ⊎_elim}
+use mathlib.Core.List.{List, [], ◌∷◌}
+use Prim.Native.Nat.{ℕ, ◌<◌, ◌≤◌}
 use native.Mathlib.Omega.{arith}
 use native.Mathlib.Decide.{ℕ_discrete}
 use lib.ListN.{length}
-use Rattle.graph.specs.History.{Event, open_task, open_finish, close, access, History, Scope, task, finish, number, begun, outward, scopes, innermost, innermost_task, InnermostFinish, Accepted, Place, before, unordered, spot, moved, place, Before, Unordered}
+use Rattle.graph.specs.History.{Event, open_task, open_finish, close, access, History, Scope, task, finish, begun, scopes, innermost, innermost_task, Accepted, Place, before, unordered, spot, moved, place}
 use Rattle.graph.specs.Graph.{Put, newest, older}
 use Rattle.graph.specs.Leaders.{Access, Leader, first, takes_over, remains, other}
-use Rattle.graph.specs.Theorems.{LeaderRight, LeadersDecide}
-use Rattle.graph.proofs.OpenScopes.{Falling, falling, On, on_below, on_outward, task_below, begun_pos, begun_mono, put_past}
-use Rattle.graph.proofs.Places.{by_eqb, main_open, task_on, task_max, inner_max, Placed, placed, placed_out, placed_below, placed_max, open_placed}
+use Rattle.graph.specs.Theorems.{LeadersDecide}
+use Rattle.graph.proofs.OpenScopes.{Falling, falling, task_below, begun_pos, begun_mono, put_past}
+use Rattle.graph.proofs.Places.{by_eqb, main_open, task_on, task_max, Placed, placed, placed_out, placed_below, placed_max, open_placed}
 
 -- The places in a row: unordered from outward in, then before from inward out. The leader's place comes no later than an access's.
 abbrev pub Covers : Place → Place → Type 0

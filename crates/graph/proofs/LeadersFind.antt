@@ -1,16 +1,12 @@
 -- A leader clashes exactly when some earlier access does.
-use mathlib.Core.Path.{◌≡◌, refl, sym, ◌∙◌}
-use mathlib.Core.Logic.{◌⊎◌, inl, inr, ⊎_elim}
-use mathlib.Core.Bool.{Bool}
-use mathlib.Core.List.{List, [], ◌∷◌}
+use mathlib.Core.Path.{◌≡◌, refl}
+use mathlib.Core.Logic.{⊎_elim}
 use Prim.Native.Nat.{ℕ}
 use native.Mathlib.Omega.{arith}
-use lib.ListN.{length}
-use lib.Dec.{T}
-use Rattle.graph.specs.History.{Event, access, History, Accepted, Place, before, unordered, place, scopes, innermost_task, Before, Unordered}
-use Rattle.graph.specs.Graph.{Put, Of, Path}
-use Rattle.graph.specs.Leaders.{Access, Leader, AccessClashes, LeaderClashes}
-use Rattle.graph.specs.Theorems.{LeadersFindClashes, LeaderRight}
+use Rattle.graph.specs.History.{access, History, scopes, innermost_task, Before, Unordered}
+use Rattle.graph.specs.Graph.{Of}
+use Rattle.graph.specs.Leaders.{Access, AccessClashes, LeaderClashes}
+use Rattle.graph.specs.Theorems.{LeadersFindClashes}
 use Rattle.graph.proofs.LeadersDecide.{leaders_decide}
 use Rattle.graph.proofs.WordsArePaths.{event_right, word}
 

@@ -1,12 +1,12 @@
 -- The list of open scopes: its numbers fall, and a scope that is open now was open since it was begun.
-use mathlib.Core.Path.{◌≡◌, refl, sym, ◌∙◌, subst, ap}
-use mathlib.Core.Logic.{◌⊎◌, inl, inr, ◌≢◌, ◌↔◌, ⊎_elim}
-use mathlib.Core.List.{List, [], ◌∷◌, ◌++◌}
-use Prim.Native.Nat.{ℕ, suc, ◌<◌, ◌≤◌}
+use mathlib.Core.Path.{◌≡◌, refl, ap}
+use mathlib.Core.Logic.{◌⊎◌, inl, inr}
+use mathlib.Core.List.{List, [], ◌∷◌}
+use Prim.Native.Nat.{ℕ, ◌<◌, ◌≤◌}
 use native.Mathlib.Omega.{arith}
 use native.Mathlib.Decide.{dec_lt}
 use lib.ListN.{length}
-use Rattle.graph.specs.History.{Event, open_task, open_finish, close, access, History, Scope, task, finish, number, begun, outward, scopes, innermost, innermost_task, InnermostFinish}
+use Rattle.graph.specs.History.{Event, open_task, open_finish, close, access, History, Scope, task, finish, number, begun, outward, scopes, innermost_task, InnermostFinish}
 use Rattle.graph.specs.Graph.{Put, newest, older}
 
 abbrev pub Falling : ℕ → List Scope → Type 0

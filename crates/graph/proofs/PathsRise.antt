@@ -1,14 +1,13 @@
 -- Arrows and paths lead from earlier to later events.
 use mathlib.Core.Path.{◌≡◌, refl, sym, ◌∙◌, subst, subst⁻¹, ap}
-use mathlib.Core.Logic.{◌⊎◌, inl, inr, ◌≢◌, ◌↔◌, ⊎_elim}
-use mathlib.Core.List.{List, [], ◌∷◌, ◌++◌}
-use Prim.Native.Nat.{ℕ, suc, ◌<◌, ◌≤◌}
+use mathlib.Core.Logic.{◌⊎◌, inl, inr}
+use mathlib.Core.List.{◌∷◌}
+use Prim.Native.Nat.{ℕ, ◌<◌}
 use native.Mathlib.Omega.{arith}
-use native.Mathlib.Decide.{dec_lt}
 use lib.ListN.{length}
-use Rattle.graph.specs.History.{Event, open_task, open_finish, close, access, History, Scope, task, finish, number, begun, outward, scopes, innermost, innermost_task, InnermostFinish}
-use Rattle.graph.specs.Graph.{Put, newest, older, Of, Opens, Closes, Within, Arrow, continue, spawn, join, Path, arrow, ◌then◌}
-use Rattle.graph.proofs.OpenScopes.{Falling, falling, On, on_below, task_below, begun_pos, finish_on, Tail, more, begun_mono, was_open, put_lt, put_tail, put_same, put_before, put_past, ordered}
+use Rattle.graph.specs.History.{open_task, close, History, task, finish, number, begun, outward, scopes, innermost, innermost_task}
+use Rattle.graph.specs.Graph.{Of, Opens, Closes, Within, Arrow, continue, spawn, join, Path, arrow, ◌then◌}
+use Rattle.graph.proofs.OpenScopes.{Falling, falling, On, on_below, task_below, begun_pos, finish_on, begun_mono, was_open, put_lt, put_tail, put_same, put_before, put_past, ordered}
 
 -- an event of a task comes after the task was opened
 pub opened_first : (h : History) (i j t : ℕ) → Opens h i t → Of h j t → i < j

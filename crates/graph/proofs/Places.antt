@@ -1,14 +1,14 @@
 -- Every place is an open scope, an open task is placed at itself, and what the steps do to a place.
 use mathlib.Core.Path.{◌≡◌, refl, sym, ◌∙◌, subst, subst⁻¹, ap}
-use mathlib.Core.Logic.{◌⊎◌, inl, inr, ◌≢◌, ◌↔◌, ⊎_elim}
+use mathlib.Core.Logic.{◌⊎◌, inl, inr, ◌≢◌, ⊎_elim}
 use mathlib.Core.Bool.{Bool, true, false, cond}
-use mathlib.Core.List.{List, [], ◌∷◌, ◌++◌}
-use Prim.Native.Nat.{ℕ, suc, ◌<◌, ◌≤◌}
+use mathlib.Core.List.{List, [], ◌∷◌}
+use Prim.Native.Nat.{ℕ, ◌<◌, ◌≤◌}
 use native.Mathlib.Omega.{arith}
 use lib.ListN.{length}
 use lib.Dec.{T, eqb, eqb→eq, eqb_refl}
-use Rattle.graph.specs.History.{Event, open_task, open_finish, close, access, History, Scope, task, finish, number, begun, outward, scopes, innermost, innermost_task, InnermostFinish, Accepted, Place, before, unordered, spot, moved, place}
-use Rattle.graph.proofs.OpenScopes.{Falling, falling, On, on_below, on_outward, ordered}
+use Rattle.graph.specs.History.{open_task, open_finish, close, access, History, Scope, task, finish, number, begun, outward, scopes, innermost, innermost_task, Accepted, Place, before, unordered, spot, moved, place}
+use Rattle.graph.proofs.OpenScopes.{Falling, falling, On, on_below, on_outward}
 
 -- a choice by an equality test
 pub by_eqb : {A : Type 0} (m n : ℕ) (x y : A) → ((m ≡ n) × (cond (eqb m n) x y ≡ x)) ⊎ ((m ≢ n) × (cond (eqb m n) x y ≡ y))

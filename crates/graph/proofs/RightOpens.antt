@@ -1,13 +1,13 @@
 -- Opens and accesses keep places and paths right.
 use mathlib.Core.Path.{◌≡◌, refl, sym, ◌∙◌, subst, subst⁻¹, ap}
 use mathlib.Core.Logic.{◌⊎◌, inl, inr, ⊎_elim}
-use mathlib.Core.List.{List, [], ◌∷◌}
+use mathlib.Core.List.{List, ◌∷◌}
 use Prim.Native.Nat.{ℕ, ◌<◌, ◌≤◌}
 use native.Mathlib.Omega.{arith}
 use native.Mathlib.Decide.{ℕ_discrete}
 use lib.ListN.{length}
 use Rattle.graph.specs.History.{Event, open_task, open_finish, close, access, History, Scope, task, finish, number, begun, scopes, innermost_task, Accepted, before, unordered, spot, place}
-use Rattle.graph.specs.Graph.{newest, Of, Path}
+use Rattle.graph.specs.Graph.{Of, Path}
 use Rattle.graph.proofs.OpenScopes.{falling, On, on_below, task_below, begun_pos}
 use Rattle.graph.proofs.Places.{by_eqb, main_open, task_on, task_max, Placed, placed, placed_below}
 use Rattle.graph.proofs.Arrows.{of_cases, of_lt, of_begun, within_begun, Joins, joins_older, joins_cases, joins_lt, Next, Upto, upto_older, upto_back, upto_le, next_own, next_own_is, next_new, next_new_is}

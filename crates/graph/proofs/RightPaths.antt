@@ -5,10 +5,10 @@ use mathlib.Core.List.{List, [], ◌∷◌}
 use Prim.Native.Nat.{ℕ, ◌<◌, ◌≤◌}
 use native.Mathlib.Omega.{arith}
 use lib.ListN.{length}
-use Rattle.graph.specs.History.{Event, close, History, Scope, task, finish, number, begun, outward, scopes, innermost, innermost_task, InnermostFinish, Accepted, before, unordered, place}
-use Rattle.graph.specs.Graph.{newest, Of, Path}
+use Rattle.graph.specs.History.{Event, close, History, Scope, task, finish, number, begun, scopes, innermost_task, InnermostFinish, Accepted, before, unordered, place}
+use Rattle.graph.specs.Graph.{Of, Path}
 use Rattle.graph.proofs.OpenScopes.{On}
-use Rattle.graph.proofs.Places.{main_open, task_on, placed, open_placed}
+use Rattle.graph.proofs.Places.{main_open, task_on, open_placed}
 use Rattle.graph.proofs.Arrows.{Joins, Next, next_lt, Upto, upto_older, upto_back, upto_le, path_to_newest, next_other, next_other_is}
 
 pub before_is_not : {A : Type 0} (a b : ℕ) → before a ≡ unordered b → A

@@ -1,6 +1,6 @@
 -- The graph of a history's events, and its paths.
 use Rattle.std.specs.Prelude.{◌≡◌, List, ◌∷◌, ℕ, ◌<◌, length}
-use Rattle.graph.specs.History.{Event, open_task, open_finish, close, access, History, Scope, task, finish, begun, scopes, innermost_task, InnermostFinish}
+use Rattle.graph.specs.History.{Event, open_task, close, access, History, Scope, task, finish, begun, scopes, innermost_task, InnermostFinish}
 
 -- event i of the history is e, and p are the events before it
 pub data Put : History → ℕ → Event → History → Type 0 where

@@ -1,6 +1,7 @@
 //! The graph of a plan's events, its paths and allowed orders, and what is proved of them. Nothing here runs: each function's
 //! contract is a theorem.
 #![tactic(auto)]
+
 ghost use Rattle.graph.specs.Theorems.{WordsArePaths, LeadersDecide, LeadersFindClashes};
 ghost use Rattle.graph.specs.Theorems.{SwappedOrders, ExchangeExact, ClashFreeReadsAlike};
 

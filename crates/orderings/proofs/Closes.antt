@@ -1,7 +1,7 @@
 -- A close: the bags of the innermost scope, and where what they hold goes.
 use Rattle.std.proofs.Common.{◌≡◌, ℕ, zero, suc, ◌+◌, ◌*◌, ◌<◌, false, ◌||◌, eqb, ◌≢◌, ◌∷◌, length, sym, ap, ◌∙◌, subst, ⊎_elim, arith}
 use Rattle.std.proofs.lemmas.Bool.{ne_eqb, cases_eq, or_from, both_ways}
-use Rattle.orderings.specs.Forest.{Forest, root, winner, linked}
+use Rattle.orderings.specs.Forest.{Forest, winner, linked}
 use Rattle.orderings.specs.Store.{Frames, Contents, joined, poured, chain}
 use Rattle.orderings.specs.Sound.{Live, Each, Closable}
 use Rattle.orderings.proofs.Chains.{chain_split, each_first}

@@ -4,7 +4,7 @@ use Rattle.std.proofs.lemmas.Bool.{eqb-true, eqb-false, cond_both}
 use Rattle.orderings.specs.declared.words.Kind.{Kind}
 use Rattle.orderings.specs.declared.words.Kind.TheVariants.{Task, Finish}
 use Rattle.orderings.specs.Meaning.{closing, after_close}
-use Rattle.orderings.specs.Forest.{linked, Grown}
+use Rattle.orderings.specs.Forest.{Grown}
 use Rattle.orderings.specs.Store.{Frames, Contents, joined, poured, poured_by, Linkable}
 use Rattle.orderings.specs.Bags.{meaning_of}
 use Rattle.orderings.specs.Sound.{Sound, Closable}

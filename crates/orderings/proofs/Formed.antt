@@ -1,11 +1,11 @@
 -- Each step keeps a meaning well formed.
-use Rattle.std.proofs.Common.{◌≡◌, ℕ, suc, ◌+◌, ◌<◌, ◌≤◌, Bool, true, false, cond, eqb, List, [], ◌∷◌, ◌++◌, map, length, sym, refl, ap, ◌∙◌, subst, arith, ne_eqb}
+use Rattle.std.proofs.Common.{◌≡◌, ℕ, ◌<◌, ◌≤◌, false, eqb, List, [], ◌∷◌, ◌++◌, map, length, refl, ap, ◌∙◌, subst, arith, ne_eqb}
 use mathlib.Core.Path.{subst⁻¹}
 use Rattle.std.proofs.lemmas.List.{length_push, length-map}
-use Rattle.graph.specs.History.{Scope, task, finish, number, outward, innermost, innermost_task, Place, before, unordered, moved}
+use Rattle.graph.specs.History.{Scope, task, finish, number, outward, Place, before, moved}
 use Rattle.orderings.specs.declared.words.Kind.{Kind}
 use Rattle.orderings.specs.declared.words.Kind.TheVariants.{Task, Finish}
-use Rattle.orderings.specs.Meaning.{Meaning, Begun, task_at, a_finish, Fall, WellFormed, new, scope_as, begun_as, with_scope, without_innermost, shifted}
+use Rattle.orderings.specs.Meaning.{Meaning, Begun, task_at, Fall, WellFormed, new, scope_as, begun_as, with_scope, without_innermost, shifted}
 
 pub formed_new : (n : ℕ) → WellFormed (new n)
 formed_new n = record { main = ([], refl); outermost = ([], refl); falling = (omega arith, tt) }

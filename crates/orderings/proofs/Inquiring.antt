@@ -1,9 +1,9 @@
 -- A list of requests, one after the other: the meaning follows the events accepted, and its words are those of the graph.
-use Rattle.std.proofs.Common.{◌≡◌, ℕ, ◌+◌, ◌<◌, ◌≤◌, Bool, true, false, cond, eqb, leb, ◌↔◌, List, [], ◌∷◌, ◌++◌, length, get_or, take, set, Some, None, Ok, Err, Option, sym, refl, ap, ◌∙◌, subst, inl, arith, leb-false}
+use Rattle.std.proofs.Common.{◌≡◌, ℕ, ◌+◌, ◌<◌, Bool, true, false, cond, eqb, leb, ◌↔◌, List, [], ◌∷◌, ◌++◌, length, get_or, take, set, Some, None, Ok, Err, Option, sym, refl, ap, ◌∙◌, subst, inl, arith, leb-false}
 use mathlib.Core.Path.{subst⁻¹}
 use borrow.Author.Tests.{eqb-false}
 use Rattle.std.proofs.lemmas.List.{take_more_set, map-set, set-get_or}
-use Rattle.graph.specs.History.{open_task, open_finish, close, access, History, Scope, task, scopes, innermost, Accepted, Place, before, unordered, place, innermost_task, Before, Unordered as UnorderedIn}
+use Rattle.graph.specs.History.{close, History, Scope, task, innermost, Accepted, Place, before, unordered, place, innermost_task, Before, Unordered as UnorderedIn}
 use Rattle.graph.specs.Graph.{Of, Closes}
 use Rattle.graph.specs.Theorems.{WordsRight}
 use Rattle.graph.proofs.OpenScopes.{On, Tail, same, more, put_past}
@@ -12,7 +12,6 @@ use Rattle.orderings.specs.declared.inquiries.Inquiry.{Inquiry}
 use Rattle.orderings.specs.declared.inquiries.Request.{Request}
 use Rattle.orderings.specs.declared.inquiries.Request.TheVariants.{OpenTask, OpenFinish, Close, Ask}
 use Rattle.orderings.specs.declared.inquiries.Response.{Response}
-use Rattle.orderings.specs.declared.inquiries.Response.TheVariants.{Opened, Closed, Refused}
 use Rattle.orderings.specs.declared.questions.Question.TheVariants.{WordOf}
 use Rattle.orderings.specs.declared.words.Fault.TheVariants.{NoNumberLeft, MainAlone}
 use Rattle.orderings.specs.declared.words.Kind.{Kind}
@@ -20,7 +19,7 @@ use Rattle.orderings.specs.declared.words.Kind.TheVariants.{Task, Finish}
 use Rattle.orderings.specs.declared.questions.Told.TheVariants.{Word as OfWord}
 use Rattle.orderings.specs.Meaning.{Meaning, WellFormed, with_scope, without_innermost, word}
 use Rattle.orderings.specs.Past.{kind_of, Means}
-use Rattle.orderings.specs.Questions.{telling, word_of_past, telling_past}
+use Rattle.orderings.specs.Questions.{telling, word_of_past}
 use Rattle.orderings.specs.Inquiries.{requests_of, opened_so, closed_so, told_so, response_to, after_request, after_requests, event_of, is_refusal, noted, events_after, events, Comes, ClosedWithoutPath, unordered_said, Inquired}
 use Rattle.orderings.proofs.Means.{means_task, means_finish, means_close, means_new, kind_stays, kind_open}
 use Rattle.orderings.proofs.Telling.{telling_as}

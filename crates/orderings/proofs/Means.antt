@@ -1,11 +1,9 @@
 -- The meaning follows the history.
-use Rattle.std.proofs.Common.{◌≡◌, ℕ, zero, suc, ◌+◌, ◌-◌, ◌<◌, ◌≤◌, Bool, true, false, cond, eqb, ◌≢◌, ◌⊎◌, List, [], ◌∷◌, ◌++◌, map, length, Some, None, Option, sym, refl, ap, ◌∙◌, subst, inl, inr, ⊎_elim, arith, eq-eqb, ne_eqb, eqb-true}
-use mathlib.Core.Path.{subst⁻¹}
+use Rattle.std.proofs.Common.{◌≡◌, ℕ, zero, suc, ◌+◌, ◌-◌, ◌≤◌, Bool, true, false, cond, eqb, ◌≢◌, List, [], ◌∷◌, ◌++◌, map, length, Some, None, Option, sym, refl, ap, ◌∙◌, subst, inl, inr, arith, eq-eqb, ne_eqb, eqb-true}
 use lib.Dec.{eqb-suc-zero, eqb-zero-suc, eqb-suc-suc}
 use Rattle.std.proofs.lemmas.List.{length_push, length-map}
-use Rattle.std.proofs.lemmas.Bool.{cases_Bool}
-use Rattle.graph.specs.History.{Event, open_task, open_finish, close, access, History, Scope, task, finish, number, begun, outward, scopes, innermost_task, Place, before, unordered, place, moved, Accepted}
-use Rattle.graph.proofs.OpenScopes.{On, on_outward, begun_pos}
+use Rattle.graph.specs.History.{Event, open_task, open_finish, close, access, History, Scope, task, finish, begun, outward, scopes, innermost_task, Place, before, place, moved, Accepted}
+use Rattle.graph.proofs.OpenScopes.{On, on_outward}
 use Rattle.graph.proofs.Places.{main_open, task_on}
 use Rattle.orderings.specs.declared.words.Kind.{Kind}
 use Rattle.orderings.specs.declared.words.Kind.TheVariants.{Task, Finish}

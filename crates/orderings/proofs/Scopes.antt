@@ -1,12 +1,12 @@
 -- The scopes of a store: those begun, by number, and those open.
-use Rattle.std.proofs.Common.{◌≡◌, ℕ, zero, suc, ◌+◌, ◌*◌, ◌/◌, ◌%◌, ◌<◌, ◌≤◌, eqb, ◌≢◌, ◌⊎◌, List, [], ◌∷◌, ◌++◌, map, Some, None, sym, refl, ap, ◌∙◌, subst, inl, inr, ⊎_elim, arith}
+use Rattle.std.proofs.Common.{◌≡◌, ℕ, zero, suc, ◌+◌, ◌*◌, ◌/◌, ◌%◌, ◌<◌, ◌≤◌, eqb, ◌≢◌, ◌⊎◌, List, [], ◌∷◌, map, Some, None, sym, refl, ap, ◌∙◌, subst, inl, inr, ⊎_elim, arith}
 use Rattle.std.proofs.lemmas.Bool.{eq-eqb, ne_eqb, cases_eq, cases_Bool, cond-true, cond-false}
 use Rattle.std.proofs.lemmas.List.FromFn.{fill_by_all, get_or-map-range_with_len, length-map-range_with_len}
 use Rattle.std.specs.List.{range_with_len}
-use Rattle.graph.specs.History.{Scope, task, finish, number, before, unordered, spot, innermost, innermost_task}
+use Rattle.graph.specs.History.{Scope, before, unordered, spot, innermost, innermost_task}
 use Rattle.orderings.specs.declared.words.Kind.{Kind}
 use Rattle.orderings.specs.declared.words.Kind.TheVariants.{Task, Finish}
-use Rattle.orderings.specs.Meaning.{Begun, a_finish, at, scope_as, Fall}
+use Rattle.orderings.specs.Meaning.{Begun, a_finish, at, scope_as}
 use Rattle.orderings.specs.Store.{Frames, chain}
 use Rattle.orderings.specs.Bags.{place_in}
 use Rattle.orderings.specs.Sound.{Framed, Each}

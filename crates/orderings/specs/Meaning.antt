@@ -1,5 +1,5 @@
 -- What an ordering holds, and what each call does to it.
-use Rattle.std.specs.Prelude.{◌≡◌, ℕ, zero, suc, ◌-◌, ◌<◌, Bool, true, false, cond, List, [], ◌∷◌, ◌++◌, map, length, Some, None, Ok, Err, Option, Result, ◌==◌, nat_le}
+use Rattle.std.specs.Prelude.{◌≡◌, ℕ, zero, suc, ◌-◌, ◌<◌, cond, List, [], ◌∷◌, ◌++◌, map, length, Some, None, Ok, Err, Option, Result, ◌==◌, nat_le}
 use Rattle.graph.specs.History.{Scope, task, finish, number, outward, innermost, Place, before, unordered, moved}
 use Rattle.orderings.specs.declared.words.Kind.{Kind}
 use Rattle.orderings.specs.declared.words.Kind.TheVariants.{Task, Finish}

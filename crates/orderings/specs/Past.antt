@@ -1,6 +1,6 @@
 -- The meaning that a history leaves.
-use Rattle.std.specs.Prelude.{◌≡◌, ℕ, ◌+◌, ◌≤◌, cond, List, [], ◌∷◌, length, Some, None, Option, ◌==◌}
-use Rattle.graph.specs.History.{Event, open_task, open_finish, close, access, History, Scope, begun, scopes, place}
+use Rattle.std.specs.Prelude.{◌≡◌, ℕ, ◌+◌, cond, [], ◌∷◌, length, Some, None, Option, ◌==◌}
+use Rattle.graph.specs.History.{open_task, open_finish, close, access, History, begun, scopes, place}
 use Rattle.orderings.specs.declared.words.Kind.{Kind}
 use Rattle.orderings.specs.declared.words.Kind.TheVariants.{Task, Finish}
 use Rattle.orderings.specs.Meaning.{Meaning, Begun, task_at, a_finish, at}

@@ -1,5 +1,6 @@
 //! Clash rules: which classes of access a rule knows, and which two of them clash.
 #![tactic(auto)]
+
 ghost use Rattle.std.specs.Prelude.{◌≡◌, ℕ, Bool, MatchResult, ◌≢◌};
 ghost use Rattle.rules.specs.Alike.{Alike};
 ghost use Rattle.rules.specs.Fields.{bit, writes_field, touches_field};

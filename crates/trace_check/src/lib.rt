@@ -1,5 +1,6 @@
 //! The check of a plan's trace, over any ordering and any clash rule.
 #![tactic(auto)]
+
 mod calls;
 mod puts;
 mod state;

@@ -1,4 +1,4 @@
-use Rattle.std.proofs.Common.{◌≡◌, ℕ, ◌<◌, ◌≤◌, true, leb, Ok, Err, sym, refl, ap, ◌∙◌, arith, rules, le-leb}
+use Rattle.std.proofs.Common.{◌≡◌, ℕ, ◌<◌, ◌≤◌, Ok, sym, refl, ap, ◌∙◌, arith, le-leb}
 use Rattle.graph.specs.History.{innermost_task}
 use Rattle.orderings.specs.Meaning.{Meaning}
 use Rattle.rows.specs.declared.row.Row.{Row}

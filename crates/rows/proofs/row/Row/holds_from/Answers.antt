@@ -1,4 +1,4 @@
-use Rattle.std.proofs.Common.{◌≡◌, ◌≤◌, length, sym, ◌∙◌, arith, rules, eq-eqb, ne_eqb}
+use Rattle.std.proofs.Common.{◌≤◌, length, sym, ◌∙◌, arith, rules, eq-eqb, ne_eqb}
 use Rattle.rows.specs.Slots.{holds_class}
 use Rattle.rows.proofs.Filled.{one_on, at_end}
 use Rattle.rows.proofs.row.Row.holds_from.Goals as goal

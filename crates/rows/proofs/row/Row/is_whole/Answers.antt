@@ -1,4 +1,4 @@
-use Rattle.std.proofs.Common.{◌≡◌, ◌≤◌, Bool, List, length, sym, ◌∙◌, arith}
+use Rattle.std.proofs.Common.{◌≤◌, Bool, List, length, sym, ◌∙◌, arith}
 use Rattle.rows.specs.declared.row.Slot.{Slot}
 use Rattle.rows.specs.Rows.{slots_whole}
 use Rattle.rows.proofs.Filled.{one_on, at_end}

@@ -1,4 +1,4 @@
-use Rattle.std.proofs.Common.{◌≡◌, ◌≤◌, length, sym, ◌∙◌, arith, rules, eq-eqb, ne_eqb}
+use Rattle.std.proofs.Common.{◌≤◌, length, sym, ◌∙◌, arith, rules, eq-eqb, ne_eqb}
 use Rattle.rows.specs.Slots.{leader_in}
 use Rattle.rows.proofs.Filled.{one_on, at_end}
 use Rattle.rows.proofs.row.Row.leader_of.Goals as goal
