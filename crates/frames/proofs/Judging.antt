@@ -7,7 +7,7 @@ use Rattle.frames.specs.declared.words.Frame.TheVariants.{Header, OpenTask, Open
 use Rattle.frames.specs.declared.words.LineFault.{LineFault}
 use Rattle.frames.specs.declared.words.LineFault.TheVariants.{NoLine, UnknownKind, WrongLength}
 use Rattle.frames.specs.Layout.{fields, body}
-use Rattle.frames.specs.Lines.{Line, FrameRead, NoLine, OfNoKind, OfWrongLength, Judged}
+use Rattle.frames.specs.Lines.{Line, FrameRead, IsNoLine, OfNoKind, OfWrongLength, Judged}
 use Rattle.frames.specs.Reading.{run, whole, framed, told, read_at, reading, Within}
 use Rattle.frames.proofs.Fields.{all_fields}
 use Rattle.frames.proofs.Shapes.{Framed, framed_right, framed_back}
@@ -19,7 +19,7 @@ Answer = Result (Frame × ℕ) LineFault
 -- what each answer says of the bytes
 abbrev Read : List ℕ → Answer → Type 0
 Read bytes (Ok p) = FrameRead bytes p.0 p.1
-Read bytes (Err NoLine) = NoLine bytes
+Read bytes (Err NoLine) = IsNoLine bytes
 Read bytes (Err UnknownKind) = OfNoKind bytes
 Read bytes (Err WrongLength) = OfWrongLength bytes
 
@@ -108,7 +108,7 @@ not_both : (bytes : List ℕ) → OfNoKind bytes → OfWrongLength bytes → ⊥
 not_both bytes n w = n.none w.frame (ap (take 2) (same_line bytes n.ds w.ds n.line w.line) ∙ w.of_kind)
 
 -- So the answer that holds is given.
-to_none : (bytes : List ℕ) (r : Answer) → Read bytes r → NoLine bytes → r ≡ Err NoLine
+to_none : (bytes : List ℕ) (r : Answer) → Read bytes r → IsNoLine bytes → r ≡ Err NoLine
 to_none bytes (Ok p) w n = absurd (n (body (fields p.0)) (frame_line bytes p.0 p.1 w))
 to_none bytes (Err NoLine) w n = refl
 to_none bytes (Err UnknownKind) w n = absurd (n w.ds w.line)

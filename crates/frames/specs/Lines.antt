@@ -22,8 +22,8 @@ pub record FrameRead (bytes : List ℕ) (f : Frame) (taken : ℕ) : Type 0 where
   pub takes : taken ≡ length (written f)
 
 -- the bytes begin with no line
-abbrev pub NoLine : List ℕ → Type 0
-NoLine bytes = (ds : List ℕ) → Line bytes ds → ⊥
+abbrev pub IsNoLine : List ℕ → Type 0
+IsNoLine bytes = (ds : List ℕ) → Line bytes ds → ⊥
 
 -- the first two digits are those of the frame
 abbrev pub OfKind : List ℕ → Frame → Type 0
@@ -46,6 +46,6 @@ pub record OfWrongLength (bytes : List ℕ) : Type 0 where
 -- each answer comes exactly where it should
 pub record Judged (bytes : List ℕ) (r : Result (Frame × ℕ) LineFault) : Type 0 where
   pub reads : (f : Frame) (taken : ℕ) → (r ≡ Ok (f, taken)) ↔ FrameRead bytes f taken
-  pub no_line : (r ≡ Err NoLine) ↔ NoLine bytes
+  pub no_line : (r ≡ Err NoLine) ↔ IsNoLine bytes
   pub unknown : (r ≡ Err UnknownKind) ↔ OfNoKind bytes
   pub wrong : (r ≡ Err WrongLength) ↔ OfWrongLength bytes

@@ -1,4 +1,6 @@
 //! Trace lines: what a line looks like, reading one, and writing the lines of a clash, a verdict and a refusal.
+#![tactic(auto)]
+
 mod digits;
 mod reading;
 #[cfg(test)]

@@ -1,6 +1,6 @@
 -- A plan that was written is read back.
-use Rattle.std.proofs.Common.{◌≡◌, ℕ, zero, suc, ◌+◌, ◌-◌, ◌*◌, ◌/◌, ◌%◌, ◌^◌, ◌<◌, ◌≤◌, Bool, true, false, cond, ◌&&◌, eqb, ltb, List, [], ◌∷◌, ◌++◌, length, get_or, drop, Some, None, Ok, codes, decimal, Result, sym, refl, ap, ◌∙◌, subst, append_assoc, add-zero, mod-lt, arith, lit<, rules}
-use Rattle.std.specs.Str.Parse.{AllDigits, digits_value, digits_value_after}
+use Rattle.std.proofs.Common.{◌≡◌, ℕ, zero, suc, ◌+◌, ◌-◌, ◌*◌, ◌/◌, ◌%◌, ◌^◌, ◌<◌, Bool, true, false, ◌&&◌, eqb, ltb, List, [], ◌∷◌, ◌++◌, length, drop, Some, None, Ok, codes, decimal, Result, refl, ap, ◌∙◌, add-zero, arith, lit<}
+use Rattle.std.specs.Str.Parse.{AllDigits, digits_value_after}
 use Rattle.std.specs.Char.{is_ascii_digit, digit_value}
 use Rattle.std.proofs.lemmas.Fmt.{decimal_is_IsNumeral}
 use Rattle.std.proofs.lemmas.List.{drop_at}
@@ -12,9 +12,9 @@ use Rattle.shorthand.specs.declared.words.Action.TheVariants.{OpenTask, OpenFini
 use Rattle.shorthand.specs.declared.words.Fault.{Fault}
 use Rattle.shorthand.specs.declared.words.Plan.{Plan}
 use Rattle.shorthand.specs.Numbers.{digits_on, fitting, number_at}
-use Rattle.shorthand.specs.Actions.{hex, acting, of_class, action_at}
+use Rattle.shorthand.specs.Actions.{hex, acting, action_at}
 use Rattle.shorthand.specs.Reading.{is_blank, heading, Reading, reading, said, counted, told, put_over, read_answer, read_into}
-use Rattle.shorthand.specs.Written.{name, digit, class_text, action_text, actions_text, written, Fits, AllFit, FromPlan, ReadBack}
+use Rattle.shorthand.specs.Written.{digit, class_text, action_text, actions_text, written, Fits, AllFit, FromPlan, ReadBack}
 use Rattle.shorthand.proofs.Digits.{fitting_read}
 use Rattle.shorthand.proofs.Said.{ahead, said_on, step_blank, step_action}
 

@@ -7,6 +7,8 @@
 //! - `?2` asks for the word of task 2.
 //!
 //! An `F` that a digit and an `@` follow is the first digit of a class.
+#![tactic(auto)]
+
 mod actions;
 mod numbers;
 mod reading;

@@ -53,9 +53,11 @@ fn each_action_is_read(rt: HostRuntime) -> Result<(), Fail> {
 fn classes_are_two_digits(rt: HostRuntime) -> Result<(), Fail> {
     is_single(&rt, b"10@3", 0, Action::Access(0x10, 3))?;
     is_single(&rt, b"0A@3", 0, Action::Access(0x0A, 3))?;
-    is_single(&rt, b"F0@3", 0, Action::Access(0xF0, 3)).note(
-        "an F that begins a class opens no finish",
-    )?;
+    assert_eq!(rt;
+        single(&rt, b"F0@3")?,
+        (0, Action::Access(0xF0, 3)),
+        "an F that begins a class opens no finish"
+    );
     is_single(&rt, b"FF@3", 0, Action::Access(0xFF, 3))
 }
 
@@ -85,13 +87,21 @@ fn actions_are_parted_by_anything_or_nothing(rt: HostRuntime) -> Result<(), Fail
 fn what_is_no_action_is_misread(rt: HostRuntime) -> Result<(), Fail> {
     is_misread(&rt, b"x", 1, Reason::NoAction)?;
     is_misread(&rt, b"T t", 3, Reason::NoAction)?;
-    is_misread(&rt, b"T plain", 3, Reason::NoAction).note("a rule is named first only")?;
+    assert_eq!(rt;
+        misread(b"T plain")?,
+        (3, Reason::NoAction),
+        "a rule is named first only"
+    );
     is_misread(&rt, b"dep T", 1, Reason::NoAction)
 }
 
 #[test]
 fn numbers_are_misread(rt: HostRuntime) -> Result<(), Fail> {
-    is_misread(&rt, b"T r", 4, Reason::NoNumber).note("behind the last character")?;
+    assert_eq!(rt;
+        misread(b"T r")?,
+        (4, Reason::NoNumber),
+        "behind the last character"
+    );
     is_misread(&rt, b"r w5", 2, Reason::NoNumber)?;
     is_misread(&rt, b"?-1", 2, Reason::NoNumber)?;
     is_misread(&rt, b"r4294967296", 2, Reason::TooLarge)?;
@@ -101,7 +111,11 @@ fn numbers_are_misread(rt: HostRuntime) -> Result<(), Fail> {
 #[test]
 fn classes_are_misread(rt: HostRuntime) -> Result<(), Fail> {
     is_misread(&rt, b"1@3", 2, Reason::NoDigit)?;
-    is_misread(&rt, b"1a@3", 2, Reason::NoDigit).note("digits are capitals")?;
+    assert_eq!(rt;
+        misread(b"1a@3")?,
+        (2, Reason::NoDigit),
+        "digits are capitals"
+    );
     is_misread(&rt, b"10 3", 3, Reason::NoAt)?;
     is_misread(&rt, b"100@3", 3, Reason::NoAt)?;
     is_misread(&rt, b"10@", 4, Reason::NoNumber)

@@ -10,7 +10,8 @@ use Rattle.scopes.specs.Frames.{Frames, chain, Framed}
 use Rattle.tree.specs.Ancestors.{Above, ChildTowards, on, side}
 use Rattle.tree.specs.ProgramTree.{place_by, place_of, Has, word_under, Says}
 use Rattle.scopes.proofs.Scopes.{scopes_of, number_as}
-use Rattle.tree.proofs.Ancestors.{true_false, on_here, on_there, on_above, above_on}
+use Rattle.tree.specs.Chains.{on_here, on_there, above_on}
+use Rattle.tree.proofs.Ancestors.{true_false, on_above}
 use Rattle.tree.proofs.Sides.{found, child_found, one_child}
 
 -- the scopes of a list are those on it

@@ -13,7 +13,8 @@ use Rattle.tree.specs.ProgramTree.{place_by, place_under, place_of}
 use Rattle.scopes.proofs.Chains.{chain_split}
 use Rattle.scopes.proofs.Scopes.{cases_kind, scopes_of, innermost_is, innermost_task_is, within_task}
 use Rattle.scopes.proofs.Placed.{closing_placed, placed_close}
-use Rattle.tree.proofs.Ancestors.{chain_alone, on_self, on_down, on_above, above_low}
+use Rattle.tree.specs.Chains.{on_self, on_down}
+use Rattle.tree.proofs.Ancestors.{chain_alone, on_above, above_low}
 use Rattle.tree.proofs.Sides.{found, outer_inside, gone, side_gone, shifts}
 
 -- the marks where the scope s is closed

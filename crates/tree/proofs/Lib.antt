@@ -4,7 +4,6 @@ pub mod Closes
 pub mod Jumps
 pub mod Making
 pub mod Opens
-pub mod Props
 pub mod Search
 pub mod Sides
 pub mod Turns

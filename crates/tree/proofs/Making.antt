@@ -6,7 +6,7 @@ use Rattle.tree.specs.Ancestors.{on}
 use Rattle.tree.specs.Nodes.{shape, marks, SoundTree}
 use Rattle.scopes.proofs.Chains.{chain_main}
 use Rattle.scopes.proofs.Scopes.{task_finish}
-use Rattle.tree.proofs.Ancestors.{on_here}
+use Rattle.tree.specs.Chains.{on_here}
 
 abbrev main_node : Node
 main_node = record { kind = Task; live = true; parent = 0; within = 0; depth = 0; jump = 0 }

@@ -12,7 +12,8 @@ use Rattle.tree.specs.ProgramTree.{place_by, place_under, place_of}
 use Rattle.scopes.proofs.Chains.{chain_main, chain_more}
 use Rattle.scopes.proofs.FramedMore.{FramedMore, each, framed_new, new_chain, old_chain}
 use Rattle.scopes.proofs.Placed.{placed_open}
-use Rattle.tree.proofs.Ancestors.{on_here, on_there, above_low}
+use Rattle.tree.specs.Chains.{on_here, on_there}
+use Rattle.tree.proofs.Ancestors.{above_low}
 use Rattle.tree.proofs.Sides.{found, closed_not_main}
 use Rattle.tree.proofs.Jumps.{leads}
 

@@ -1,21 +1,21 @@
--- What holds of each tree: its open scopes, how long a search in it takes, its answers, and that its meaning is well formed.
+-- What holds of each tree: its open scopes, how long a search in it takes, and its answers.
 use Rattle.std.proofs.Common.{◌≡◌, ℕ, ◌^◌, ◌<◌, true, false, Ok, sym, refl, ap, ◌∙◌, subst, arith}
-use Rattle.std.proofs.lemmas.Bool.{cond-true}
 use Rattle.orderings.specs.declared.words.Kind.{Kind}
 use Rattle.orderings.specs.declared.words.Kind.TheVariants.{Task}
 use Rattle.orderings.specs.declared.words.Word.{Word}
 use Rattle.orderings.specs.declared.words.Word.TheVariants.{Before}
 use Rattle.tree.specs.declared.Tree.{Tree}
-use Rattle.orderings.specs.Meaning.{asked, WellFormed}
+use Rattle.orderings.specs.Meaning.{asked}
 use Rattle.scopes.specs.Frames.{chain}
 use Rattle.tree.specs.Ancestors.{on}
 use Rattle.tree.specs.Nodes.{all, marks, Turns, SoundTree}
 use Rattle.tree.specs.ProgramTree.{tree, place_of, meaning, OpenAbove, word_under, Query, Closed, side_of, Within3Log, Within48}
-use Rattle.scopes.proofs.Placed.{asked_task, formed_placed}
-use Rattle.tree.proofs.Ancestors.{true_false, above_on, above_low, not_above}
+use Rattle.scopes.proofs.Placed.{asked_task}
+use Rattle.tree.specs.Chains.{above_on}
+use Rattle.tree.proofs.Ancestors.{true_false, above_low, not_above}
 use Rattle.tree.proofs.Asks.{open_above, word_open, says_open, word_shut, says_shut}
-use Rattle.tree.proofs.Props.{reveal_tree}
-use Rattle.tree.proofs.Sides.{main_open, found}
+use Rattle.tree.specs.Props.{reveal_tree}
+use Rattle.tree.proofs.Sides.{found}
 use Rattle.tree.proofs.Turns.{enough, turns_side}
 
 module _ (t : Tree) where
@@ -71,9 +71,3 @@ module _ (t : Tree) where
         asked_task fr (place_of fr t.begun t.inner) t.begun x c.begun task ∙ ap (λ (w : Word). Ok w) (word_shut fr t.begun t.inner sound_of.framed t.innermost x c.begun off ∙ word-is),
         subst (Query t x) word-is (says_shut fr t.begun t.inner sound_of.framed t.innermost x c.begun off),
       )
-
-  pub formed_tree : WellFormed (meaning t)
-  formed_tree =
-      let fr = tree t in
-      formed_placed fr (place_of fr t.begun t.inner) _ t.begun t.inner sound_of.framed t.innermost
-      (cond-true (on (chain fr.outward t.begun t.inner) 0) _ _ (main_open fr.outward t.begun sound_of.framed.inward t.inner t.innermost))

@@ -4,15 +4,13 @@ use Rattle.std.proofs.lemmas.Bool.{cases_eq, cases_Bool, cond-true, cond-false}
 use Rattle.scopes.specs.Frames.{chain}
 use Rattle.tree.specs.Ancestors.{Above, itself, further, ChildTowards, on, last_off, side}
 use Rattle.scopes.proofs.Chains.{chain_first, chain_split}
-use Rattle.tree.proofs.Ancestors.{true_false, not_true, on_self, on_down, on_above, above_on, above_low, above_main, above_trans, above_parent, above_both}
+use Rattle.tree.specs.Chains.{on_self, on_down, above_on, main_open}
+use Rattle.tree.proofs.Ancestors.{true_false, not_true, on_above, above_low, above_trans, above_parent, above_both}
 
 -- the scopes on the chain of y are open
 module _ (up : ℕ → ℕ) (n : ℕ) (inward : (s : ℕ) → s < n → s ≢ 0 → up s < s) (y : ℕ) (inside : y < n) where
-  pub main_open : on (chain up n y) 0 ≡ true
-  main_open = above_on up n inward 0 y inside (above_main up n inward n y inside inside)
-
   pub closed_not_main : (x : ℕ) → on (chain up n y) x ≡ false → x ≢ 0
-  closed_not_main x c e = true_false _ main_open (ap (on (chain up n y)) (sym e) ∙ c)
+  closed_not_main x c e = true_false _ (main_open up n inward y inside) (ap (on (chain up n y)) (sym e) ∙ c)
 
   pub open_upward : (a b : ℕ) → on (chain up n y) a ≡ true → Above up b a → on (chain up n y) b ≡ true
   open_upward a b o w = above_on up n inward b y inside (above_trans up b a y w (on_above up n inward n a y inside inside o))

@@ -7,7 +7,8 @@ use Rattle.scopes.specs.Frames.{Frames, chain, Framed}
 use Rattle.tree.specs.Ancestors.{on, side}
 use Rattle.tree.specs.Nodes.{Marks, leap, Marked, Turns, ends, jumps, climbs}
 use Rattle.tree.proofs.Ancestors.{true_false}
-use Rattle.tree.proofs.Sides.{main_open, closed_not_main, side_here, side_up, side_above}
+use Rattle.tree.specs.Chains.{main_open}
+use Rattle.tree.proofs.Sides.{closed_not_main, side_here, side_up, side_above}
 use Rattle.tree.proofs.Jumps.{Longer, leads, hop, long}
 
 module _ (fr : Frames) (m : Marks) where

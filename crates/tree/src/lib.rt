@@ -1,5 +1,6 @@
 //! The program structure tree: an ordering on a table lent by the caller.
 #![tactic(auto)]
+
 ghost use Rattle.std.specs.Prelude.{◌+◌, ◌<◌, ◌≤◌, length};
 ghost use Rattle.tree.specs.Nodes.{all, shape, marks, SoundTree};
 

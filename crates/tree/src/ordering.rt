@@ -1,4 +1,5 @@
 //! The tree is an ordering.
+ghost use Rattle.tree.specs.Formation.{formed_tree};
 ghost use Rattle.tree.specs.ProgramTree.{meaning as meaning_of};
 
 use crate::Tree;
@@ -8,6 +9,8 @@ impl<'t> Ordering for Tree<'t> {
     ghost meaning = { meaning_of };
 
     ghost sound = { λ _. Unit {0} };
+
+    ghost formed = { λ x _. formed_tree x };
 
     fn open_task(&mut self) -> Result<u32, Fault> {
         self.open_scope(Kind::Task)

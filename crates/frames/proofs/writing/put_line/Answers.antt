@@ -3,8 +3,8 @@ use Rattle.frames.proofs.Fields.{field_within, fit_at}
 use Rattle.frames.proofs.Buffers.{field_more, line_done}
 use Rattle.frames.proofs.writing.put_line.Goals as goal
 
-pub put-digits-at-requires : goal.put-digits-at-requires
-put-digits-at-requires c =
+pub put_digits-at-requires : goal.put_digits-at-requires
+put_digits-at-requires c =
     let h : c.loop-width.width-index < length c.args.fields.now = omega arith in
     record {
       room = omega (arith, field_within c.args.fields.now c.loop-width.width-index h, c.loop-width.invariant.1);

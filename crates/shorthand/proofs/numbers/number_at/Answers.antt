@@ -2,7 +2,7 @@ use Rattle.std.proofs.Common.{◌≡◌, ℕ, ◌+◌, ◌-◌, ◌*◌, ◌^◌
 use Rattle.shorthand.specs.Numbers.{digits_on, fitting}
 use Rattle.shorthand.proofs.Digits.{digits_more, digits_stop, digits_end, digits_rise, fitting_read, none_read, large_read}
 use Rattle.shorthand.proofs.numbers.number_at.Goals as goal
-use Rattle.shorthand.proofs.numbers.number_at.Goals.{Left-loop-count, then-loop-count-test+else-is-ascii-digit, else-loop-count-test}
+use Rattle.shorthand.proofs.numbers.number_at.Goals.{Left-loop-count, then-loop-count-test+else-is_ascii_digit, else-loop-count-test}
 
 pub loop-count-init : goal.loop-count-init
 loop-count-init c = (omega arith, omega arith, rw add-zero)
@@ -10,7 +10,7 @@ loop-count-init c = (omega arith, omega arith, rw add-zero)
 pub loop-count-preserved : goal.loop-count-preserved
 loop-count-preserved c =
     let n = c.loop-count.count in
-    let e = digits_more c.args.text.now c.loop-count.number (c.args.at + n) n (omega arith) (sym c.if-is-ascii-digit.ensures.value) in
+    let e = digits_more c.args.text.now c.loop-count.number (c.args.at + n) n (omega arith) (sym c.if-is_ascii_digit.ensures.value) in
     (omega arith, omega arith, rw (← add_assoc c.args.at n 1) (sym e ∙ c.loop-count.invariant.2))
 
 -- one digit more makes the number too large
@@ -20,7 +20,7 @@ returns-then-number-digit c =
     let i = c.loop-count.count in
     let m : ℕ = 10 * c.loop-count.number + (get_or l i 0 - 48) in
     let p : ℕ × ℕ = digits_on m ((c.args.at + i) + 1) (drop (i + 1) l) in
-    let e = digits_more l c.loop-count.number (c.args.at + i) i (omega arith) (sym c.if-is-ascii-digit.ensures.value) in
+    let e = digits_more l c.loop-count.number (c.args.at + i) i (omega arith) (sym c.if-is_ascii_digit.ensures.value) in
     let all : digits_on 0 c.args.at l ≡ p = sym c.loop-count.invariant.2 ∙ e in
     let large : 2 ^ 32 ≤ m = omega arith in
     let rise = digits_rise m ((c.args.at + i) + 1) (drop (i + 1) l) in
@@ -35,7 +35,7 @@ ended c =
     let p : ℕ = c.args.at + i in
     sym c.loop-count.invariant.2
     ∙ elim c.loop-count-test.branch [
-      | then-loop-count-test+else-is-ascii-digit w ↦ digits_stop l n p i (omega arith) (sym w.if-is-ascii-digit.ensures.value)
+      | then-loop-count-test+else-is_ascii_digit w ↦ digits_stop l n p i (omega arith) (sym w.if-is_ascii_digit.ensures.value)
       | else-loop-count-test w ↦ digits_end l n p i (omega arith)
     ]
 

@@ -8,8 +8,8 @@ pub returns : goal.returns
 returns c =
     let w = c.args.word.now in
     let l = take (length w) c.args.text.now in
-    let r = c.starts-with.result in
+    let r = c.starts_with.result in
     record {
-      same = same_from_decides r (bytes_eq w l) (slice_eq-Decides Decides-eqb w l r c.starts-with.ensures.value) (bytes_eq-Decides w l);
-      long = c.starts-with.ensures.bound;
+      same = same_from_decides r (bytes_eq w l) (slice_eq-Decides Decides-eqb w l r c.starts_with.ensures.value) (bytes_eq-Decides w l);
+      long = c.starts_with.ensures.bound;
     }

@@ -21,15 +21,15 @@ returns-in-Ok c =
     let l = c.args.text.now in
     let old = c.args.actions.now in
     let p = c.heading-rule.result in
-    let a = ap (told p.0) (sym c.in-Ok.is ∙ c.read-actions.ensures.answer) ∙ told_answer l old c.if-actions-text.false p c.heading-rule.ensures.rule in
-    let b = c.read-actions.ensures.places ∙ told_places l old c.if-actions-text.false p c.heading-rule.ensures.rule in
-    record { answer = a; places = b; back = read_back l old c.read-actions.new.actions _ a b }
+    let a = ap (told p.0) (sym c.in-Ok.is ∙ c.read_actions.ensures.answer) ∙ told_answer l old c.if-actions-text.false p c.heading-rule.ensures.rule in
+    let b = c.read_actions.ensures.places ∙ told_places l old c.if-actions-text.false p c.heading-rule.ensures.rule in
+    record { answer = a; places = b; back = read_back l old c.read_actions.new.actions _ a b }
 
 pub returns-in-Err : goal.returns-in-Err
 returns-in-Err c =
     let l = c.args.text.now in
     let old = c.args.actions.now in
     let p = c.heading-rule.result in
-    let a = ap (told p.0) (sym c.in-Err.is ∙ c.read-actions.ensures.answer) ∙ told_answer l old c.if-actions-text.false p c.heading-rule.ensures.rule in
-    let b = c.read-actions.ensures.places ∙ told_places l old c.if-actions-text.false p c.heading-rule.ensures.rule in
-    record { answer = a; places = b; back = read_back l old c.read-actions.new.actions _ a b }
+    let a = ap (told p.0) (sym c.in-Err.is ∙ c.read_actions.ensures.answer) ∙ told_answer l old c.if-actions-text.false p c.heading-rule.ensures.rule in
+    let b = c.read_actions.ensures.places ∙ told_places l old c.if-actions-text.false p c.heading-rule.ensures.rule in
+    record { answer = a; places = b; back = read_back l old c.read_actions.new.actions _ a b }

@@ -8,7 +8,7 @@ use Rattle.tree.specs.Nodes.{all, no_node, node_at, marks}
 use Rattle.tree.specs.ProgramTree.{tree, meaning}
 use Rattle.scopes.proofs.Placed.{closing_alone}
 use Rattle.scopes.proofs.Tables.{entry_write}
-use Rattle.tree.proofs.Props.{reveal_tree}
+use Rattle.tree.specs.Props.{reveal_tree}
 use Rattle.tree.proofs.Closes.{inner_not_main, parent_low, closing_closed}
 use Rattle.tree.proofs.Writes.{shut, tree_shut, placed_shut}
 use Rattle.tree.proofs.Tree.close_scope.Goals as goal
@@ -38,9 +38,15 @@ invariant_of-self c =
     let pos = below.0 in
     let out = below.1 in
     let to = ap (λ (e : Node). e.parent) c.node-parent.ensures in
-    let size = length-set t.nodes.table.now (t.inner - 1) (shut (node_at t.nodes.table.now (t.inner - 1))) in
     let sound = tree_shut es _ t.begun t.inner t.count _ (omega arith) t.innermost c.if-self-le1.false (reveal_tree t.sound) (entry_write t.nodes.main t.nodes.table.now t.inner no_node shut pos) to in
-    (omega arith, (omega arith, (omega arith, (omega arith, (omega arith, (∣ sound ∣₁, tt))))))
+    record {
+      some = omega arith;
+      fewer = omega arith;
+      room = omega (arith, length-set {A = Node});
+      few = omega arith;
+      innermost = omega arith;
+      sound = ∣ sound ∣₁;
+    }
 
 pub returns : goal.returns
 returns c =

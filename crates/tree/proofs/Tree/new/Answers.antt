@@ -6,7 +6,14 @@ use Rattle.tree.proofs.Making.{sound_root}
 use Rattle.tree.proofs.Tree.new.Goals as goal
 
 pub invariant_of-result : goal.invariant_of-result
-invariant_of-result c = (omega arith, (omega arith, (omega arith, (omega arith, (omega arith, (∣ sound_root c.args.table.now ∣₁, tt))))))
+invariant_of-result c = record {
+  some = omega arith;
+  fewer = omega arith;
+  room = omega arith;
+  few = omega arith;
+  innermost = omega arith;
+  sound = ∣ sound_root c.args.table.now ∣₁;
+}
 
 pub returns : goal.returns
 unfolding chain

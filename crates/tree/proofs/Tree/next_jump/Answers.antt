@@ -4,7 +4,7 @@ use Rattle.tree.specs.declared.node.Node.{Node}
 use Rattle.tree.specs.Nodes.{all, node_at, Marks, marks}
 use Rattle.tree.specs.ProgramTree.{tree}
 use Rattle.tree.proofs.Jumps.{leads}
-use Rattle.tree.proofs.Props.{reveal_tree}
+use Rattle.tree.specs.Props.{reveal_tree}
 use Rattle.tree.proofs.Tree.next_jump.Goals as goal
 
 -- the jump of the node read at s leads up

@@ -9,7 +9,7 @@ use Rattle.tree.specs.Nodes.{all, no_node, node_at, marks, jump_under}
 use Rattle.tree.specs.ProgramTree.{tree}
 use Rattle.scopes.proofs.Tables.{entry_write}
 use Rattle.tree.proofs.Jumps.{leads}
-use Rattle.tree.proofs.Props.{reveal_tree}
+use Rattle.tree.specs.Props.{reveal_tree}
 use Rattle.tree.proofs.Writes.{Fits, tree_opened, placed_opened}
 use Rattle.tree.proofs.Tree.open_scope.Goals.{in-Task, in-Finish}
 use Rattle.tree.proofs.Tree.open_scope.Goals as goal
@@ -46,7 +46,14 @@ invariant_of-self c =
     let put = entry_write t.nodes.main t.nodes.table.now t.begun no_node (λ _. e) (omega arith) in
     let size = length-set t.nodes.table.now (t.begun - 1) e in
     let sound = tree_opened (all t.nodes) t.begun t.inner t.count e (omega arith) t.innermost (reveal_tree t.sound) fit _ put in
-    (omega arith, (omega arith, (omega arith, (omega arith, (omega arith, (∣ sound ∣₁, tt))))))
+    record {
+      some = omega arith;
+      fewer = omega arith;
+      room = omega arith;
+      few = omega arith;
+      innermost = omega arith;
+      sound = ∣ sound ∣₁;
+    }
 
 pub returns : goal.returns
 returns c =

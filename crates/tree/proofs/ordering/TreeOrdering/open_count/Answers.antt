@@ -1,6 +1,6 @@
 use Rattle.std.proofs.Common.{sym, ◌∙◌}
 use Rattle.std.proofs.lemmas.List.{length-map}
-use Rattle.tree.proofs.Props.{reveal_tree}
+use Rattle.tree.specs.Props.{reveal_tree}
 use Rattle.tree.proofs.ordering.TreeOrdering.open_count.Goals as goal
 
 pub returns : goal.returns
