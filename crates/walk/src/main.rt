@@ -8,6 +8,7 @@ mod words;
 
 use input::{Stop, plan_of, text_of};
 use lines::tell;
+use std::process::ExitCode;
 use steps::walk_through;
 
 fn walk(rt: &HostRuntime) -> Result<(), Stop> {
@@ -19,10 +20,12 @@ fn walk(rt: &HostRuntime) -> Result<(), Stop> {
     Ok(())
 }
 
-fn main(rt: HostRuntime) -> Result<(), Stop> {
-    let walked = walk(&rt);
-    if let Err(stop) = &walked {
-        eprintln!(rt; "{stop}")?;
+fn main(rt: HostRuntime) -> ExitCode {
+    match walk(&rt) {
+        Ok(()) => ExitCode::SUCCESS,
+        Err(stop) => {
+            let _ = eprintln!(rt; "{stop}");
+            ExitCode::FAILURE
+        }
     }
-    walked
 }
