@@ -1,8 +1,7 @@
 -- Putting the actions, and taking the steps, one after the other.
-use Rattle.std.proofs.Common.{◌≡◌, ℕ, ◌+◌, ◌-◌, ◌<◌, ◌≤◌, List, [], ◌∷◌, ◌++◌, map, length, get_or, take, drop, sym, refl, ap, ◌∙◌, append_assoc, arith}
+use Rattle.std.proofs.Common.{◌≡◌, ℕ, ◌+◌, ◌-◌, ◌<◌, ◌≤◌, List, [], ◌∷◌, ◌++◌, length, get_or, take, drop, sym, refl, ◌∙◌, append_assoc, arith}
 use Rattle.std.proofs.lemmas.List.{append-nil, map-append, drop_more, drop_all, take_rest}
 use Rattle.orderings.specs.declared.questions.Question.TheVariants.{InnermostTask}
-use Rattle.trace_check.specs.declared.words.Call.{Call}
 use Rattle.trace_check.specs.declared.words.Call.TheVariants.{Ask}
 use Rattle.conversation.specs.declared.words.Exchange.{Exchange}
 use Rattle.conversation.specs.Conversation.{calls_of}

@@ -1,5 +1,5 @@
 -- No step of a walk is answered with anything but a word, where it is a question.
-use Rattle.std.proofs.Common.{◌≡◌, ℕ, zero, suc, ◌<◌, Bool, true, false, cond, ltb, leb, List, [], ◌∷◌, length, get_or, Some, None, Option, sym, subst, arith}
+use Rattle.std.proofs.Common.{ℕ, zero, suc, Bool, true, false, cond, ltb, leb, List, [], ◌∷◌, length, Some, None, Option, sym, subst, arith}
 use Rattle.graph.specs.History.{History, begun, scopes}
 use Rattle.orderings.specs.declared.words.Kind.{Kind}
 use Rattle.orderings.specs.declared.words.Kind.TheVariants.{Task, Finish}

@@ -1,16 +1,14 @@
 -- Right replies to the calls of a plan are the steps of a walk.
-use Rattle.std.proofs.Common.{◌≡◌, ℕ, Bool, true, false, cond, not, ◌&&◌, List, [], ◌∷◌, ◌++◌, map, sym, refl, ap, ◌∙◌, subst, append_assoc, arith}
+use Rattle.std.proofs.Common.{◌≡◌, ℕ, Bool, true, false, cond, List, [], ◌∷◌, ◌++◌, map, sym, refl, ap, ◌∙◌, subst, append_assoc, arith}
 use Rattle.rules.specs.declared.Rule.{Rule}
 use Rattle.graph.specs.History.{History, scopes, innermost_task}
 use Rattle.orderings.specs.declared.questions.Question.TheVariants.{InnermostTask}
 use Rattle.trace_check.specs.declared.words.Call.{Call}
 use Rattle.trace_check.specs.declared.words.Call.TheVariants.{Ask}
-use Rattle.trace_check.specs.declared.words.Reply.{Reply}
 use Rattle.conversation.specs.declared.words.Ending.{Ending}
 use Rattle.conversation.specs.declared.words.Exchange.{Exchange}
-use Rattle.orderings.specs.Inquiries.{noted}
-use Rattle.conversation.specs.Replies.{Setting, reply_to, event_of, is_refusal, after, after_all, events}
-use Rattle.conversation.specs.Theorem.{Comes, RepliesRight}
+use Rattle.conversation.specs.Replies.{Setting, reply_to, is_refusal, after, after_all, events}
+use Rattle.conversation.specs.Theorem.{RepliesRight}
 use Rattle.conversation.specs.Conversation.{calls_of, ending}
 use Rattle.shorthand.specs.declared.words.Action.{Action}
 use Rattle.walk.specs.declared.steps.Step.{Step}

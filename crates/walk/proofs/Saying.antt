@@ -1,5 +1,5 @@
 -- A plan that was read is what the text says.
-use Rattle.std.proofs.Common.{◌≡◌, ℕ, Bool, true, false, cond, ltb, List, [], ◌∷◌, ◌++◌, length, take, drop, Some, None, Ok, Err, Option, Result, sym, refl, ap, ◌∙◌, subst, arith}
+use Rattle.std.proofs.Common.{◌≡◌, ℕ, Bool, true, false, cond, ltb, List, length, take, drop, Some, None, Ok, Err, Option, Result, sym, refl, ap, arith}
 use Rattle.std.proofs.lemmas.List.{take_at}
 use Rattle.rules.specs.declared.Rule.{Rule}
 use Rattle.shorthand.specs.declared.words.Action.{Action}

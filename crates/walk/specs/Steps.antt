@@ -1,6 +1,5 @@
 -- The steps that a list of exchanges holds.
 use Rattle.std.specs.Prelude.{ℕ, List, [], ◌∷◌}
-use Rattle.orderings.specs.declared.questions.Told.{Told}
 use Rattle.orderings.specs.declared.questions.Told.TheVariants.{Word, Number, Kind}
 use Rattle.trace_check.specs.declared.words.Reply.{Reply}
 use Rattle.trace_check.specs.declared.words.Reply.TheVariants.{Opened, Closed, Found, Told as tells, Refused}

@@ -3,13 +3,13 @@ ghost use Rattle.std.specs.Prelude.{◌≡◌, IfOk};
 ghost use Rattle.conversation.specs.Conversation.{calls_of};
 ghost use Rattle.walk.specs.Calls.{call_of, calls_for, Checked};
 
-use trace_check::{Call, Reply};
 use conversation::{Ending, Exchange, converse};
 use orderings::{Bags, Entry, Question, Told};
 use rows::Row;
 use rules::Rule;
 use shorthand::Action;
 use std::alloc::{AllocError, Global};
+use trace_check::{Call, Reply};
 
 /// How many scope numbers there are beyond main.
 pub(crate) const NUMBERS: usize = 1_024;

@@ -5,13 +5,13 @@ ghost use Rattle.walk.specs.Lines.{AWord, Plainly, AllPlainly};
 use crate::calls::{NUMBERS, RECORDS};
 use crate::steps::{Step, Walk};
 use crate::words::{Deed, Named, layer_name, meaning, plural, rule_name};
-use trace_check::{Counts, Refusal, Reply};
 use conversation::Ending;
 use orderings::{Told, Word};
 use rows::Finding;
 use rules::Rule;
 use shorthand::Action;
 use std::io;
+use trace_check::{Counts, Refusal, Reply};
 
 fn tell_setting(rt: &HostRuntime, rule: Rule) -> io::Result<()> {
     let name = rule_name(rule);

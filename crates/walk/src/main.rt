@@ -1,5 +1,6 @@
 //! Walks through a plan in shorthand: each action, and what the check answers, in words.
 #![tactic(auto)]
+
 mod calls;
 mod input;
 mod lines;

@@ -5,12 +5,12 @@ ghost use Rattle.walk.specs.Steps.{number_told, paired};
 ghost use Rattle.walk.specs.Walk.{is_event, Walked};
 
 use crate::calls::{check_plan, exchanges_of};
-use trace_check::Reply;
 use conversation::{Ending, Exchange};
 use orderings::Told;
 use rules::Rule;
 use shorthand::Action;
 use std::alloc::{AllocError, Global};
+use trace_check::Reply;
 
 /// An action, the task that it belongs to, and the reply.
 #[derive(Clone, Copy)]

@@ -1,10 +1,10 @@
 //! The words for tasks, actions and refusals.
-use trace_check::Refusal;
 use orderings::Fault;
 use rows::RowFault;
 use rules::Rule;
 use shorthand::Action;
 use std::fmt;
+use trace_check::Refusal;
 
 /// A task by its name.
 #[derive(Drop)]

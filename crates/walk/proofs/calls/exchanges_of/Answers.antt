@@ -1,4 +1,4 @@
-use Rattle.std.proofs.Common.{vec_items, ◌∙◌, arith}
+use Rattle.std.proofs.Common.{vec_items, ◌∙◌}
 use Rattle.walk.proofs.Pairing.{calls_more, calls_all}
 use Rattle.walk.proofs.calls.exchanges_of.Goals as goal
 

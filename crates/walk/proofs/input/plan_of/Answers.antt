@@ -1,6 +1,5 @@
-use Rattle.std.proofs.Common.{◌≡◌, List, length, take, vec_items, vec_len, sym, ap, ◌∙◌, subst}
+use Rattle.std.proofs.Common.{◌≡◌, length, take, vec_items, vec_len, sym, ap, ◌∙◌, subst}
 use Rattle.std.proofs.lemmas.List.{with_items_is}
-use Rattle.shorthand.specs.declared.words.Action.{Action}
 use Rattle.walk.specs.Walk.{Says}
 use Rattle.walk.proofs.Saying.{says}
 use Rattle.walk.proofs.input.plan_of.Goals as goal

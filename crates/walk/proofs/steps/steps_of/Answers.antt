@@ -1,4 +1,4 @@
-use Rattle.std.proofs.Common.{◌≡◌, vec_items, ap, arith}
+use Rattle.std.proofs.Common.{vec_items, arith}
 use Rattle.shorthand.specs.declared.words.Action.TheVariants.{OpenTask}
 use Rattle.walk.proofs.Pairing.{steps_more, steps_stop, steps_all}
 use Rattle.walk.proofs.steps.steps_of.Goals as goal
