@@ -1,6 +1,6 @@
 """Traces made by hand, each with the output that it must give; the outputs too were written by hand, from the rules.
 
-Refusals that no trace can bring about in plancheck, and so stand in no row:
+The program meant is plancheck, which is still to come. Refusals that no trace can bring about in it, and so stand in no row:
   11  its line buffer has 23 bytes
   12  no line of a trace asks about a task
   13  it starts a check with 1 to 256 rows and a limit of 1,000,000

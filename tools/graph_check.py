@@ -3,9 +3,10 @@
 
     python3 tools/graph_check.py < trace
 
-prints what plancheck has to print for the same bytes, and ends with the same status: 0 when the trace was read to its
-end, 1 after a refusal. It shares no code with plancheck and goes about it another way: it builds the arrows between
-events and searches them backwards at every access. That is slow, and short enough to be believed.
+prints what plancheck, a program that is still to come, has to print for the same bytes, and ends with the same status:
+0 when the trace was read to its end, 1 after a refusal. It shares no code with that program and goes about it another
+way: it builds the arrows between events and searches them backwards at every access. That is slow, and short enough to
+be believed.
 """
 
 import sys

@@ -1,2 +1,2 @@
-//! Scopes kept in a table by their numbers: what the orderings made of one have in common. Definitions and lemmas; nothing in it runs.
+//! Scopes kept in a table by their numbers: what an ordering that keeps them so rests on. Definitions and lemmas; nothing in it runs.
 #![tactic(auto)]
