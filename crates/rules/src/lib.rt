@@ -9,8 +9,7 @@ ghost use Rattle.rules.specs.Classes.{plain_knows, depot_knows, field_knows};
 ghost use Rattle.rules.specs.Numbers.{number_of, rule_of};
 ghost use Rattle.rules.specs.Any.{known_under, clash_under};
 ghost use Rattle.rules.specs.Words.{RulesInWords};
-ghost use Rattle.std.proofs.Common.{rules};
-ghost use Rattle.rules.specs.Clashes.{field_alike, any_alike};
+ghost use Rattle.rules.specs.Clashes.{plain_alike, depot_alike, field_alike, any_alike};
 
 #[cfg(test)]
 mod tests;
@@ -62,7 +61,7 @@ impl ClashRule for Plain {
 
     ghost clash = { λ _. plain };
 
-    ghost alike = { Prim.search rules };
+    ghost alike = { λ _ a b _ _. plain_alike a b };
 
     fn rule_number(&self) -> u32 {
         Plain::NUMBER
@@ -92,7 +91,7 @@ impl ClashRule for Depot {
 
     ghost clash = { λ _. depot };
 
-    ghost alike = { Prim.search rules };
+    ghost alike = { λ _ a b _ _. depot_alike a b };
 
     fn rule_number(&self) -> u32 {
         Depot::NUMBER
