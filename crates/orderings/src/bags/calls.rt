@@ -3,7 +3,7 @@ ghost use Rattle.std.specs.Prelude.{◌≡◌, ◌<◌, min, length, Err};
 ghost use Rattle.orderings.specs.Forest.{root as root_of, Shallow};
 ghost use Rattle.orderings.specs.Meaning.{new as fresh, opening, after_open, closing, after_close, asked};
 ghost use Rattle.orderings.specs.Store.{entries, forest};
-ghost use Rattle.orderings.specs.Bags.{meaning as bags_meaning};
+ghost use Rattle.orderings.specs.Bags.{meaning as meaning_of};
 
 use crate::bags::Bags;
 use crate::bags::entry::Entry;
@@ -13,7 +13,7 @@ use crate::words::{Fault, Kind, Word};
 impl<'t> Bags<'t> {
     /// Main alone is begun. A table of n entries leaves the smaller of n and 65,535 numbers beyond main.
     pub fn new(table: &'t mut [Entry]) -> Bags<'t>
-        ensures { bags_meaning result ≡ fresh (min (length table.old) 65535) }
+        ensures { meaning_of result ≡ fresh (min (length table.old) 65535) }
     {
         Bags {
             store: Store {
@@ -30,7 +30,7 @@ impl<'t> Bags<'t> {
 impl Bags<'_> {
     /// The word of a task, found by a search from its element up to the root. The search takes at most log2 n steps among n scopes begun.
     pub fn word_of(&self, task: u32) -> Result<Word, Fault>
-        ensures answer { result ≡ asked (bags_meaning self.now).begun task }
+        ensures answer { result ≡ asked (meaning_of self.now).begun task }
         ensures steps { Shallow (forest (entries self.now.store)) self.now.begun }
     {
         if task >= self.begun {
@@ -71,8 +71,8 @@ impl Bags<'_> {
 
     /// Begins a scope of a kind within the innermost open scope.
     pub(crate) fn open_scope(&mut self, kind: Kind) -> Result<u32, Fault>
-        ensures answer { result ≡ opening (bags_meaning self.old) }
-        ensures after { bags_meaning self.new ≡ after_open kind (bags_meaning self.old) }
+        ensures answer { result ≡ opening (meaning_of self.old) }
+        ensures after { meaning_of self.new ≡ after_open kind (meaning_of self.old) }
         ensures refused { (f : Fault) → result ≡ Err f → self.new ≡ self.old }
     {
         let number = self.begun;
@@ -102,8 +102,8 @@ impl Bags<'_> {
 
     /// Closes the innermost open scope, and gives its number.
     pub(crate) fn close_scope(&mut self) -> Result<u32, Fault>
-        ensures answer { result ≡ closing (bags_meaning self.old) }
-        ensures after { bags_meaning self.new ≡ after_close (bags_meaning self.old) }
+        ensures answer { result ≡ closing (meaning_of self.old) }
+        ensures after { meaning_of self.new ≡ after_close (meaning_of self.old) }
         ensures refused { (f : Fault) → result ≡ Err f → self.new ≡ self.old }
     {
         if self.count <= 1 {

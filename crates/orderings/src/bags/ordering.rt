@@ -1,5 +1,5 @@
 //! The bags are an ordering.
-ghost use Rattle.orderings.specs.Bags.{meaning as bags_meaning};
+ghost use Rattle.orderings.specs.Bags.{meaning as meaning_of};
 ghost use Rattle.orderings.specs.Formation.{formed_bags};
 
 use crate::bags::Bags;
@@ -7,7 +7,7 @@ use crate::ordering::Ordering;
 use crate::words::{Fault, Kind, Word};
 
 impl<'t> Ordering for Bags<'t> {
-    ghost meaning = { bags_meaning };
+    ghost meaning = { meaning_of };
 
     ghost sound = { λ _. Unit {0} };
 
