@@ -1,23 +1,21 @@
 -- A close keeps the bags sound, and makes the step of the meaning.
-use Rattle.std.proofs.Common.{◌≡◌, ℕ, ◌+◌, ◌-◌, ◌*◌, ◌/◌, ◌%◌, ◌<◌, ◌≤◌, min, Bool, true, false, cond, ◌||◌, eqb, leb, ◌≢◌, ◌⊎◌, List, ◌∷◌, length, Ok, Err, sym, refl, ap, ◌∙◌, subst, inl, inr, ⊎_elim, arith}
-use mathlib.Core.List.{map-map}
-use Rattle.std.proofs.lemmas.Bool.{eq-eqb, ne_eqb, eqb-true, cases_eq, cases_Bool, or_cases, or_left, or_right, cond-true, cond-false, lt-leb, le-leb}
-use Rattle.std.proofs.lemmas.List.{length-map}
-use Rattle.std.specs.List.{range_with_len}
-use Rattle.graph.specs.History.{Scope, Place, before, unordered, spot, moved, innermost, innermost_task, outward}
+use Rattle.std.proofs.Common.{◌≡◌, ℕ, ◌+◌, ◌-◌, ◌*◌, ◌/◌, ◌%◌, ◌<◌, Bool, true, false, cond, ◌||◌, eqb, ◌≢◌, ◌⊎◌, List, ◌∷◌, length, Ok, sym, refl, ap, ◌∙◌, subst, inl, inr, ⊎_elim, arith}
+use Rattle.std.proofs.lemmas.Bool.{eq-eqb, ne_eqb, eqb-true, cases_eq, cases_Bool, or_cases, or_left, or_right, cond-true, cond-false}
+use Rattle.graph.specs.History.{Scope, Place, before, unordered, spot, moved, innermost, innermost_task}
 use Rattle.orderings.specs.declared.words.Kind.{Kind}
 use Rattle.orderings.specs.declared.words.Kind.TheVariants.{Task, Finish}
-use Rattle.orderings.specs.declared.words.Fault.TheVariants.{MainAlone}
-use Rattle.orderings.specs.Meaning.{Meaning, task_at, scope_as, shifted, closing, after_close}
+use Rattle.orderings.specs.Meaning.{scope_as, closing, after_close}
 use Rattle.orderings.specs.Forest.{root}
-use Rattle.orderings.specs.Store.{Frames, Contents, chain}
-use Rattle.orderings.specs.Bags.{place_in, place_of, begun_at, meaning_of}
-use Rattle.orderings.specs.Sound.{Live, Each, Sound, Closable}
+use Rattle.orderings.specs.Store.{Contents, Frames, chain}
+use Rattle.orderings.specs.Sound.{Each, Live, Sound, Closable}
+use Rattle.orderings.specs.Bags.{place_in, place_of, meaning_of}
 use Rattle.orderings.proofs.Chains.{each_chain}
+use Rattle.orderings.proofs.Placed.{closing_placed, placed_close}
 use Rattle.orderings.proofs.Pours.{Moved}
-use Rattle.orderings.proofs.Scopes.{place_serial, place_parallel, spot_in, cases_kind, same_counted, innermost_is, innermost_task_is, within_task}
-use Rattle.orderings.specs.Formation.{scopes_of}
+use Rattle.orderings.proofs.Places.{place_serial, place_parallel, spot_in}
 use Rattle.orderings.specs.Props.{task_finish}
+use Rattle.orderings.specs.Formation.{scopes_of}
+use Rattle.orderings.proofs.Scopes.{innermost_is, innermost_task_is, within_task}
 use Rattle.orderings.proofs.Closes.{not_main, outer_low, split}
 
 -- which bags move to q where the scope s closes
@@ -39,10 +37,6 @@ goes_finish fr s t = record {
   all = λ k e f. ⊎_elim (λ z. absurd (task_finish (fr.kind s) (f s (omega arith)) t)) (λ z. eq-eqb k (2 * s + 1) (omega arith)) (cases_eq (k % 2) 0);
   lands = inr (t, refl);
 }
-
--- with main alone a close is refused
-pub closing_alone : (m : Meaning) → length m.opened ≤ 1 → (closing m ≡ Err MainAlone) × (after_close m ≡ m)
-closing_alone m l = let e = le-leb (length m.opened) 1 l in (cond-true (leb (length m.opened) 1) _ _ e, cond-true (leb (length m.opened) 1) _ _ e)
 
 module _ (fr : Frames) (c d : Contents) (size s q : ℕ) (m : ℕ → Bool) (K : Closable fr c size s) (go : Goes fr s q m) (M : Moved c d K.begun q m) where
   low : fr.outward s < s
@@ -123,24 +117,11 @@ module _ (fr : Frames) (c d : Contents) (size s q : ℕ) (m : ℕ → Bool) (K :
           (λ e. cond-false (eqb (spot (place_of c i)) s) (place_in q) (place_of c i) (ne_eqb (spot (place_of c i)) s e) ∙ here ∙ sym (there ∙ ap place_in (cond-false (m k) q k (stays k (λ h. e (at ∙ h))))))
           (cases_eq (spot (place_of c i)) s)
 
-  scope_moved : (i : ℕ) → i < K.begun → shifted (scopes_of fr (chain fr.outward K.begun s)) (begun_at (fr.kind i) (place_of c i)) ≡ begun_at (fr.kind i) (place_of d i)
-  scope_moved i l =
-      let ss : List Scope = scopes_of fr (chain fr.outward K.begun s) in
-      ⊎_elim
-      (λ t. ap (λ (k : Kind). shifted ss (begun_at k (place_of c i))) t ∙ ap task_at (task_moved i l t) ∙ ap (λ (k : Kind). begun_at k (place_of d i)) (sym t))
-      (λ t. ap (λ (k : Kind). shifted ss (begun_at k (place_of c i))) t ∙ ap (λ (k : Kind). begun_at k (place_of d i)) (sym t))
-      (cases_kind (fr.kind i))
-
-  more : leb (length (scopes_of fr (chain fr.outward K.begun s))) 1 ≡ false
-  more = lt-leb (length (scopes_of fr (chain fr.outward K.begun s))) 1 (let e = length-map (chain fr.outward K.begun s) (λ i. scope_as (fr.kind i) i) in let k = K.sound.counted in omega arith)
-
   pub answer_closed : (cap : ℕ) → closing (meaning_of fr c cap K.begun s) ≡ Ok s
-  answer_closed cap = cond-false (leb (length (scopes_of fr (chain fr.outward K.begun s))) 1) _ _ more ∙ ap (λ (k : ℕ). Ok k) (innermost_is fr K.begun K.sound.framed K.begun s K.inside)
+  answer_closed cap = let len = K.sound.counted in let more = K.more in closing_placed fr (place_of c) cap K.begun s K.sound.framed K.inside (omega arith)
 
   pub meaning_closed : (cap : ℕ) → meaning_of fr d cap K.begun (fr.outward s) ≡ after_close (meaning_of fr c cap K.begun s)
   meaning_closed cap =
-      let opened-same = sym (ap outward opened_is) in
-      let begun-same =
-      same_counted (λ i. begun_at (fr.kind i) (place_of d i)) (λ i. shifted (scopes_of fr (chain fr.outward K.begun s)) (begun_at (fr.kind i) (place_of c i))) K.begun (λ i l. sym (scope_moved i l))
-      ∙ sym (map-map (shifted (scopes_of fr (chain fr.outward K.begun s))) (λ i. begun_at (fr.kind i) (place_of c i)) (range_with_len 0 K.begun)) in
-      (λ j. record { opened = opened-same j; begun = begun-same j; left = min cap 65535 + 1 - K.begun }) ∙ sym (cond-false (leb (length (scopes_of fr (chain fr.outward K.begun s))) 1) _ _ more)
+      let len = K.sound.counted in
+      let more = K.more in
+      placed_close fr (place_of c) cap K.begun s K.sound.framed K.inside (omega arith) (place_of d) (not_main fr c size s K) task_moved

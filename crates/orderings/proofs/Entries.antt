@@ -5,6 +5,7 @@ use Rattle.std.proofs.lemmas.Bool.{eq-eqb, ne_eqb, cases_eq, cond-true, cond-fal
 use Rattle.orderings.specs.declared.bags.entry.Entry.{Entry}
 use Rattle.orderings.specs.Forest.{upd}
 use Rattle.orderings.specs.Store.{empty, entry_at, frames, forest, head, contents}
+use Rattle.orderings.proofs.Tables.{entry_read, entry_write}
 use Rattle.orderings.proofs.Sums.{upd_same, upd_other}
 
 upd_self : (g : ℕ → ℕ) (i v : ℕ) → v ≡ g i → upd g i v ≡ g
@@ -12,12 +13,10 @@ upd_self g i v e = fun_ext (λ y. ⊎_elim (λ q. upd_same g i v y q ∙ e ∙ a
 
 -- the table goes on from entry 1
 pub table_at : (m : Entry) (t : List Entry) (i : ℕ) → 0 < i → get_or t (i - 1) empty ≡ entry_at (m ∷ t) i
-table_at m t zero h = absurd (omega arith)
-table_at m t (suc i) h = let e : suc i - 1 ≡ i = omega arith in rw e
+table_at m t i = entry_read m t i empty
 
 pub table_set : (m : Entry) (t : List Entry) (i : ℕ) (f : Entry → Entry) → 0 < i → m ∷ set t (i - 1) (f (get_or t (i - 1) empty)) ≡ set (m ∷ t) i (f (entry_at (m ∷ t) i))
-table_set m t zero f h = absurd (omega arith)
-table_set m t (suc i) f h = let e : suc i - 1 ≡ i = omega arith in rw e
+table_set m t i f = entry_write m t i empty f
 
 pub main_set : (m : Entry) (t : List Entry) (i : ℕ) (f : Entry → Entry) → i ≡ 0 → f m ∷ t ≡ set (m ∷ t) i (f (entry_at (m ∷ t) i))
 main_set m t zero f e = refl

@@ -1,25 +1,21 @@
 -- The entries after an open.
-use Rattle.std.proofs.Common.{◌≡◌, ℕ, ◌+◌, ◌*◌, ◌<◌, ◌≤◌, ◌⊎◌, List, length, set, sym, refl, ap, ◌∙◌, subst, ⊎_elim, arith}
+use Rattle.std.proofs.Common.{◌≡◌, ℕ, ◌+◌, ◌*◌, ◌<◌, ◌≤◌, List, length, set, sym, refl, ap, ◌∙◌, subst, ⊎_elim, arith}
 use Rattle.orderings.specs.declared.words.Kind.{Kind}
-use Rattle.orderings.specs.declared.words.Kind.TheVariants.{Task, Finish}
 use Rattle.orderings.specs.declared.bags.entry.Entry.{Entry}
 use Rattle.orderings.specs.Forest.{upd}
-use Rattle.orderings.specs.Store.{Frames, frames, head, contents}
+use Rattle.orderings.specs.Store.{frames, head, contents}
 use Rattle.orderings.specs.Meaning.{with_scope}
 use Rattle.orderings.specs.Bags.{meaning_of}
 use Rattle.orderings.specs.Sound.{Sound}
 use Rattle.orderings.proofs.Sums.{upd_same, upd_other}
 use Rattle.orderings.proofs.Entries.{here, there, contents_set}
 use Rattle.orderings.specs.Props.{task_finish}
-use Rattle.orderings.proofs.Opens.{FramedMore, FilledMore, sound_new, meaning_new}
+use Rattle.orderings.proofs.FramedMore.{FramedMore, Within}
+use Rattle.orderings.proofs.Opens.{FilledMore, sound_new, meaning_new}
 
 -- the entry of a new scope n
 abbrev pub fresh : Kind → ℕ → ℕ → ℕ → Entry
 fresh k n out within = record { kind = k; rank = 0; parent = n; bag = 2 * n; outward = out; within = within; serial = n; parallel = 0 }
-
--- the innermost task of the new scope
-abbrev pub Within : Frames → Kind → ℕ → ℕ → ℕ → Type 0
-Within fr k n s w = ((k ≡ Task) × (w ≡ n)) ⊎ ((k ≡ Finish) × (w ≡ fr.within s))
 
 module _ (es : List Entry) (n s w : ℕ) (k : Kind) (room : n < length es) where
   framed_more : Within (frames es) k n s w → FramedMore (frames es) (frames (set es n (fresh k n s w))) n s k

@@ -1,29 +1,18 @@
 -- The scopes of a store: those begun, by number, and those open.
-use Rattle.std.proofs.Common.{◌≡◌, ℕ, zero, suc, ◌+◌, ◌*◌, ◌/◌, ◌%◌, ◌<◌, ◌≤◌, eqb, ◌≢◌, ◌⊎◌, List, [], ◌∷◌, map, Some, None, sym, refl, ap, ◌∙◌, subst, inl, inr, ⊎_elim, arith}
-use Rattle.std.proofs.lemmas.Bool.{eq-eqb, ne_eqb, cases_eq, cases_Bool, cond-true, cond-false}
+use Rattle.std.proofs.Common.{◌≡◌, ℕ, zero, suc, ◌+◌, ◌<◌, ◌≤◌, ◌≢◌, ◌⊎◌, List, [], ◌∷◌, map, Some, None, sym, refl, ap, ◌∙◌, subst, inl, inr, ⊎_elim, arith}
+use Rattle.std.proofs.lemmas.Bool.{cases_eq}
 use Rattle.std.proofs.lemmas.List.FromFn.{fill_by_all, get_or-map-range_with_len, length-map-range_with_len}
 use Rattle.std.specs.List.{range_with_len}
-use Rattle.graph.specs.History.{Scope, before, unordered, spot, innermost, innermost_task}
+use Rattle.graph.specs.History.{Scope, innermost, innermost_task}
 use Rattle.orderings.specs.declared.words.Kind.{Kind}
 use Rattle.orderings.specs.declared.words.Kind.TheVariants.{Task, Finish}
 use Rattle.orderings.specs.Meaning.{Begun, a_finish, at, scope_as}
 use Rattle.orderings.specs.Store.{Frames, chain}
-use Rattle.orderings.specs.Bags.{place_in}
 use Rattle.orderings.specs.Sound.{Framed, Each}
 use Rattle.orderings.specs.Chains.{chain_main, chain_more}
 use Rattle.orderings.specs.Props.{task_finish}
 use Rattle.orderings.specs.Formation.{number_as, scopes_of}
 use Rattle.orderings.proofs.Chains.{chain_first, chain_agree, each_first}
-
--- the places that bags say
-pub place_serial : (t : ℕ) → place_in (2 * t) ≡ before t
-place_serial t = cond-true (eqb (2 * t % 2) 0) _ _ (eq-eqb (2 * t % 2) 0 (omega arith)) ∙ ap before (omega arith)
-
-pub place_parallel : (t : ℕ) → place_in (2 * t + 1) ≡ unordered t
-place_parallel t = cond-false (eqb ((2 * t + 1) % 2) 0) _ _ (ne_eqb ((2 * t + 1) % 2) 0 (omega arith)) ∙ ap unordered (omega arith)
-
-pub spot_in : (k : ℕ) → spot (place_in k) ≡ k / 2
-spot_in k = ⊎_elim (λ e. ap spot (cond-true (eqb (k % 2) 0) _ _ e)) (λ e. ap spot (cond-false (eqb (k % 2) 0) _ _ e)) (cases_Bool (eqb (k % 2) 0))
 
 pub cases_kind : (k : Kind) → (k ≡ Task) ⊎ (k ≡ Finish)
 cases_kind Task = inl refl

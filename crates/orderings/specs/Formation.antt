@@ -1,16 +1,17 @@
--- The meaning of bags is well formed.
+-- What scopes in their frames mean is well formed, and so is what bags mean.
 use Rattle.std.proofs.Common.{◌≡◌, ℕ, zero, suc, ◌<◌, List, [], ◌∷◌, ◌++◌, map, sym, refl, ap, ◌∙◌, subst, ⊎_elim, arith}
 use Rattle.std.proofs.lemmas.Bool.{cases_eq}
 use Rattle.std.proofs.lemmas.List.FromFn.{length-map-range_with_len}
 use Rattle.std.specs.List.{range_with_len}
-use Rattle.graph.specs.History.{Scope, task, number, before}
+use Rattle.graph.specs.History.{Scope, Place, task, number, before}
 use Rattle.orderings.specs.declared.words.Kind.{Kind}
 use Rattle.orderings.specs.declared.words.Kind.TheVariants.{Task, Finish}
 use Rattle.orderings.specs.declared.bags.Bags.{Bags}
 use Rattle.orderings.specs.Meaning.{Begun, task_at, scope_as, Fall, WellFormed}
-use Rattle.orderings.specs.Store.{Frames, frames, entries, Contents, contents, chain}
+use Rattle.orderings.specs.Store.{Frames, frames, entries, contents, chain}
 use Rattle.orderings.specs.Sound.{Framed}
-use Rattle.orderings.specs.Bags.{place_of, begun_at, meaning, meaning_of}
+use Rattle.orderings.specs.Bags.{place_of, begun_at, meaning}
+use Rattle.orderings.specs.Placed.{scopes_begun, placed}
 use Rattle.orderings.specs.Chains.{chain_main, chain_more}
 use Rattle.orderings.specs.Props.{reveal}
 
@@ -44,18 +45,18 @@ module _ (fr : Frames) (n : ℕ) (w : Framed fr n) where
       subst (λ (ss : List ℕ). Fall top (scopes_of fr ss)) (sym (chain_more fr.outward f s q)) (omega arith, falls f (fr.outward s) (number (scope_as (fr.kind s) s)) (omega arith) (omega arith) (omega arith)))
       (cases_eq s 0)
 
-formed_framed : (fr : Frames) (c : Contents) (cap n s : ℕ) → Framed fr n → s < n → WellFormed (meaning_of fr c cap n s)
-formed_framed fr c cap n s w l = record {
+pub formed_placed : (fr : Frames) (place : ℕ → Place) (cap n s : ℕ) → Framed fr n → s < n → place 0 ≡ before 0 → WellFormed (placed fr place cap n s)
+formed_placed fr place cap n s w l at-main = record {
   main = first n l;
   outermost = outermost_is fr n w n s l l;
-  falling = subst (λ (k : ℕ). Fall k (scopes_of fr (chain fr.outward n s))) (sym (length-map-range_with_len (λ x. begun_at (fr.kind x) (place_of c x)) 0 n)) (falls fr n w n s n l l l);
+  falling = subst (λ (k : ℕ). Fall k (scopes_of fr (chain fr.outward n s))) (sym (length-map-range_with_len (λ x. begun_at (fr.kind x) (place x)) 0 n)) (falls fr n w n s n l l l);
 }
   where
-    first : (n : ℕ) → s < n → (rest : List Begun) × (map (λ x. begun_at (fr.kind x) (place_of c x)) (range_with_len 0 n) ≡ task_at (before 0) ∷ rest)
+    first : (n : ℕ) → s < n → (rest : List Begun) × (scopes_begun fr place n ≡ task_at (before 0) ∷ rest)
     first zero l = absurd (omega arith)
     first (suc n) l =
-        let rest : List Begun = map (λ x. begun_at (fr.kind x) (place_of c x)) (range_with_len 1 n) in
-        (rest, ap (λ (k : Kind). begun_at k (before 0) ∷ rest) w.main)
+        let rest : List Begun = map (λ x. begun_at (fr.kind x) (place x)) (range_with_len 1 n) in
+        (rest, λ j. begun_at (w.main j) (at-main j) ∷ rest)
 
 pub formed_bags : (b : Bags) → WellFormed (meaning b)
-formed_bags b = formed_framed (frames (entries b.store)) (contents (entries b.store)) _ b.begun b.inner (reveal b.sound).framed b.innermost
+formed_bags b = formed_placed (frames (entries b.store)) (place_of (contents (entries b.store))) _ b.begun b.inner (reveal b.sound).framed b.innermost refl

@@ -7,6 +7,7 @@ pub mod Forest
 pub mod Store
 pub mod Sound
 pub mod Bags
+pub mod Placed
 pub mod Formation
 pub mod Chains
 pub mod Props

@@ -19,7 +19,7 @@ kind_discrete Task Finish = no (λ e. task_finish Finish (sym e) refl)
 kind_discrete Finish Task = no (λ e. task_finish Finish e refl)
 kind_discrete Finish Finish = yes refl
 
-kind_set : IsSet Kind
+pub kind_set : IsSet Kind
 kind_set = hedberg kind_discrete
 
 grown_prop : (f : Forest) (n : ℕ) (x y : Grown f n) → x ≡ y
@@ -38,7 +38,7 @@ each_prop : (P : ℕ → Type 0) → ((n : ℕ) (x y : P n) → x ≡ y) → (ss
 each_prop P h [] x y = Unit-prop x y
 each_prop P h (s ∷ ss) x y = ×_prop (h s) (each_prop P h ss) x y
 
-framed_prop : (fr : Frames) (n : ℕ) (x y : Framed fr n) → x ≡ y
+pub framed_prop : (fr : Frames) (n : ℕ) (x y : Framed fr n) → x ≡ y
 framed_prop fr n x y = λ i. record {
   main = kind_set _ _ x.main y.main i;
   inward = Π_prop (λ _. Π_prop (λ _. Π_prop (λ _. le_prop))) x.inward y.inward i;

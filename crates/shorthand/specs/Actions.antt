@@ -9,7 +9,7 @@ use Rattle.shorthand.specs.Words.{wrong}
 use Rattle.shorthand.specs.Numbers.{number_at}
 
 infix 40 ◌has◌
--- the character at the place i of a text, 0 behind the last
+-- the character is the one that a text of one holds
 abbrev pub ◌has◌ : ℕ → String → Bool
 c has s = c == slice_index (codes s) 0
 
@@ -17,6 +17,7 @@ c has s = c == slice_index (codes s) 0
 abbrev pub hex : ℕ → Option ℕ
 hex c = cond (nat_le 48 c && nat_le c 57) (Some (c - 48)) (cond (nat_le 65 c && nat_le c 70) (Some (c - 55)) None)
 
+-- a digit has a value below 16, and is not the character 0
 abbrev pub Digit : ℕ → Option ℕ → Type 0
 Digit c (Some v) = (v < 16) × (0 < c)
 Digit c None = Unit {0}

@@ -1,10 +1,10 @@
 -- Ancestors, and the chains of scopes up to main.
 use Rattle.std.proofs.Common.{◌≡◌, ℕ, zero, suc, ◌-◌, ◌<◌, ◌≤◌, Bool, true, false, ◌≢◌, ◌⊎◌, List, [], ◌∷◌, sym, refl, ap, ◌∙◌, subst, inl, inr, ⊎_elim, arith}
 use Rattle.std.proofs.lemmas.Bool.{cases_eq}
-use Rattle.scopes.specs.Frames.{chain}
+use Rattle.orderings.specs.Store.{chain}
 use Rattle.tree.specs.Ancestors.{Above, itself, further, on}
 use Rattle.tree.specs.Chains.{on_there, on_down}
-use Rattle.scopes.proofs.Chains.{chain_main}
+use Rattle.orderings.specs.Chains.{chain_main}
 
 pub true_false : (b : Bool) → b ≡ true → b ≡ false → ⊥
 true_false b p q = let z : ◌≡◌ {A = ℕ} 0 1 = cc in omega arith

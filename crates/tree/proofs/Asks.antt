@@ -6,10 +6,11 @@ use Rattle.orderings.specs.declared.words.Kind.{Kind}
 use Rattle.orderings.specs.declared.words.Kind.TheVariants.{Task, Finish}
 use Rattle.orderings.specs.declared.words.Word.TheVariants.{Before}
 use Rattle.orderings.specs.Meaning.{word}
-use Rattle.scopes.specs.Frames.{Frames, chain, Framed}
+use Rattle.orderings.specs.Store.{Frames, chain}
+use Rattle.orderings.specs.Sound.{Framed}
 use Rattle.tree.specs.Ancestors.{Above, ChildTowards, on, side}
 use Rattle.tree.specs.ProgramTree.{place_by, place_of, Has, word_under, Says}
-use Rattle.scopes.proofs.Scopes.{scopes_of, number_as}
+use Rattle.orderings.specs.Formation.{scopes_of, number_as}
 use Rattle.tree.specs.Chains.{on_here, on_there, above_on}
 use Rattle.tree.proofs.Ancestors.{true_false, on_above}
 use Rattle.tree.proofs.Sides.{found, child_found, one_child}

@@ -5,14 +5,15 @@ use Rattle.graph.specs.History.{Place, before, unordered, spot, moved}
 use Rattle.orderings.specs.declared.words.Kind.{Kind}
 use Rattle.orderings.specs.declared.words.Kind.TheVariants.{Task, Finish}
 use Rattle.orderings.specs.Meaning.{scope_as, closing, after_close}
-use Rattle.scopes.specs.Frames.{Frames, chain}
-use Rattle.scopes.specs.Placed.{placed}
+use Rattle.orderings.specs.Store.{Frames, chain}
+use Rattle.orderings.specs.Placed.{placed}
 use Rattle.tree.specs.Ancestors.{on, side}
 use Rattle.tree.specs.Nodes.{Marks, SoundTree}
 use Rattle.tree.specs.ProgramTree.{place_by, place_under, place_of}
-use Rattle.scopes.proofs.Chains.{chain_split}
-use Rattle.scopes.proofs.Scopes.{cases_kind, scopes_of, innermost_is, innermost_task_is, within_task}
-use Rattle.scopes.proofs.Placed.{closing_placed, placed_close}
+use Rattle.orderings.proofs.Chains.{chain_split}
+use Rattle.orderings.proofs.Scopes.{cases_kind, innermost_is, innermost_task_is, within_task}
+use Rattle.orderings.specs.Formation.{scopes_of}
+use Rattle.orderings.proofs.Placed.{closing_placed, placed_close}
 use Rattle.tree.specs.Chains.{on_self, on_down}
 use Rattle.tree.proofs.Ancestors.{chain_alone, on_above, above_low}
 use Rattle.tree.proofs.Sides.{found, outer_inside, gone, side_gone, shifts}

@@ -2,7 +2,8 @@
 use Rattle.std.proofs.Common.{◌≡◌, ℕ, zero, suc, ◌+◌, ◌*◌, ◌^◌, ◌<◌, ◌≤◌, eqb, ◌≢◌, ◌⊎◌, sym, ap, ◌∙◌, subst, inl, inr, ⊎_elim, pow-suc, arith, pow_mono}
 use native.Mathlib.Nat.{pow-zero}
 use Rattle.std.proofs.lemmas.Bool.{eq-eqb, ne_eqb, cases_eq, cases_lt, cond-true, cond-false}
-use Rattle.scopes.specs.Frames.{Frames, Framed}
+use Rattle.orderings.specs.Store.{Frames}
+use Rattle.orderings.specs.Sound.{Framed}
 use Rattle.tree.specs.Ancestors.{Above, itself, further}
 use Rattle.tree.specs.Nodes.{Marks, leap, jump_under, Marked}
 use Rattle.tree.proofs.Ancestors.{above_trans}

@@ -4,8 +4,8 @@ use Rattle.orderings.specs.declared.words.Kind.TheVariants.{Task}
 use Rattle.tree.specs.declared.node.Node.{Node}
 use Rattle.tree.specs.Ancestors.{on}
 use Rattle.tree.specs.Nodes.{shape, marks, SoundTree}
-use Rattle.scopes.proofs.Chains.{chain_main}
-use Rattle.scopes.proofs.Scopes.{task_finish}
+use Rattle.orderings.specs.Chains.{chain_main}
+use Rattle.orderings.specs.Props.{task_finish}
 use Rattle.tree.specs.Chains.{on_here}
 
 abbrev main_node : Node

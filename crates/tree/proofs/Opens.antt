@@ -4,14 +4,14 @@ use Rattle.std.proofs.lemmas.Bool.{cases_eq, cases_Bool, cond-true, cond-false}
 use Rattle.graph.specs.History.{before}
 use Rattle.orderings.specs.declared.words.Kind.{Kind}
 use Rattle.orderings.specs.Meaning.{with_scope}
-use Rattle.scopes.specs.Frames.{Frames, chain}
-use Rattle.scopes.specs.Placed.{placed}
+use Rattle.orderings.specs.Store.{Frames, chain}
+use Rattle.orderings.specs.Placed.{placed}
 use Rattle.tree.specs.Ancestors.{on, last_off, side}
 use Rattle.tree.specs.Nodes.{Marks, jump_under, Marked, SoundTree}
 use Rattle.tree.specs.ProgramTree.{place_by, place_under, place_of}
-use Rattle.scopes.proofs.Chains.{chain_main, chain_more}
-use Rattle.scopes.proofs.FramedMore.{FramedMore, each, framed_new, new_chain, old_chain}
-use Rattle.scopes.proofs.Placed.{placed_open}
+use Rattle.orderings.specs.Chains.{chain_main, chain_more}
+use Rattle.orderings.proofs.FramedMore.{FramedMore, each, framed_new, new_chain, old_chain}
+use Rattle.orderings.proofs.Placed.{placed_open}
 use Rattle.tree.specs.Chains.{on_here, on_there}
 use Rattle.tree.proofs.Ancestors.{above_low}
 use Rattle.tree.proofs.Sides.{found, closed_not_main}

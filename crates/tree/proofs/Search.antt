@@ -6,11 +6,11 @@ use Rattle.orderings.specs.declared.words.Word.{Word}
 use Rattle.orderings.specs.declared.words.Word.TheVariants.{Before}
 use Rattle.tree.specs.declared.Tree.{Tree}
 use Rattle.orderings.specs.Meaning.{asked}
-use Rattle.scopes.specs.Frames.{chain}
+use Rattle.orderings.specs.Store.{chain}
 use Rattle.tree.specs.Ancestors.{on}
 use Rattle.tree.specs.Nodes.{all, marks, Turns, SoundTree}
 use Rattle.tree.specs.ProgramTree.{tree, place_of, meaning, OpenAbove, word_under, Query, Closed, side_of, Within3Log, Within48}
-use Rattle.scopes.proofs.Placed.{asked_task}
+use Rattle.orderings.proofs.Placed.{asked_task}
 use Rattle.tree.specs.Chains.{above_on}
 use Rattle.tree.proofs.Ancestors.{true_false, above_low, not_above}
 use Rattle.tree.proofs.Asks.{open_above, word_open, says_open, word_shut, says_shut}

@@ -1,9 +1,9 @@
 -- The child on the side of a closed scope: it is found by climbing, and is the only one.
 use Rattle.std.proofs.Common.{◌≡◌, ℕ, zero, suc, ◌<◌, true, false, ◌≢◌, ◌⊎◌, List, ◌∷◌, sym, refl, ap, ◌∙◌, subst, inl, inr, ⊎_elim, arith}
 use Rattle.std.proofs.lemmas.Bool.{cases_eq, cases_Bool, cond-true, cond-false}
-use Rattle.scopes.specs.Frames.{chain}
+use Rattle.orderings.specs.Store.{chain}
 use Rattle.tree.specs.Ancestors.{Above, itself, further, ChildTowards, on, last_off, side}
-use Rattle.scopes.proofs.Chains.{chain_first, chain_split}
+use Rattle.orderings.proofs.Chains.{chain_first, chain_split}
 use Rattle.tree.specs.Chains.{on_self, on_down, above_on, main_open}
 use Rattle.tree.proofs.Ancestors.{true_false, not_true, on_above, above_low, above_trans, above_parent, above_both}
 

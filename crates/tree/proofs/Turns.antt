@@ -3,7 +3,8 @@ use Rattle.std.proofs.Common.{◌≡◌, ℕ, zero, suc, ◌+◌, ◌-◌, ◌*�
 use native.Mathlib.Nat.{pow-zero}
 use lib.Pow.{pow-lt}
 use Rattle.std.proofs.lemmas.Bool.{cases_eq, cases_lt, cases_Bool, cond-true, cond-false}
-use Rattle.scopes.specs.Frames.{Frames, chain, Framed}
+use Rattle.orderings.specs.Store.{Frames, chain}
+use Rattle.orderings.specs.Sound.{Framed}
 use Rattle.tree.specs.Ancestors.{on, side}
 use Rattle.tree.specs.Nodes.{Marks, leap, Marked, Turns, ends, jumps, climbs}
 use Rattle.tree.proofs.Ancestors.{true_false}

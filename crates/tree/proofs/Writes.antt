@@ -4,12 +4,12 @@ use mathlib.Core.Path.{fun_ext}
 use Rattle.std.proofs.lemmas.Bool.{eq-eqb, ne_eqb, cases_eq, cond-true, cond-false}
 use Rattle.tree.specs.declared.node.Node.{Node}
 use Rattle.orderings.specs.Meaning.{with_scope, after_close}
-use Rattle.scopes.specs.Frames.{Frames}
-use Rattle.scopes.specs.Placed.{placed}
+use Rattle.orderings.specs.Store.{Frames}
+use Rattle.orderings.specs.Placed.{placed}
 use Rattle.tree.specs.Nodes.{no_node, node_at, shape, Marks, marks, jump_under, SoundTree}
 use Rattle.tree.specs.ProgramTree.{place_of}
-use Rattle.scopes.proofs.Scopes.{task_finish}
-use Rattle.scopes.proofs.FramedMore.{FramedMore, Within}
+use Rattle.orderings.specs.Props.{task_finish}
+use Rattle.orderings.proofs.FramedMore.{FramedMore, Within}
 use Rattle.tree.proofs.Opens.{MarkedMore, tree_new, placed_new}
 use Rattle.tree.proofs.Closes.{without_live, tree_closed, placed_closed}
 

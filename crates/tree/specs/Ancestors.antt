@@ -1,6 +1,6 @@
 -- A tree of scopes, by the parent of each. Main is number 0, and has no parent.
 use Rattle.std.specs.Prelude.{ℕ, Bool, true, false, cond, ◌≢◌, List, [], ◌∷◌, ◌==◌}
-use Rattle.scopes.specs.Frames.{chain}
+use Rattle.orderings.specs.Store.{chain}
 
 -- a is the scope x or an ancestor of it
 pub data Above (parent : ℕ → ℕ) (a : ℕ) : ℕ → Type 0 where

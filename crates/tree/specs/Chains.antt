@@ -1,8 +1,8 @@
 -- What is on the chain of a scope: the scope, its ancestors, and main.
 use Rattle.std.proofs.Common.{◌≡◌, ℕ, zero, suc, ◌<◌, true, eqb, ◌≢◌, List, ◌∷◌, sym, refl, ap, ◌∙◌, subst, ⊎_elim, arith}
 use Rattle.std.proofs.lemmas.Bool.{eq-eqb, ne_eqb, cases_eq, cond-true, cond-false}
-use Rattle.scopes.specs.Frames.{chain}
-use Rattle.scopes.proofs.Chains.{chain_first, chain_split}
+use Rattle.orderings.specs.Store.{chain}
+use Rattle.orderings.proofs.Chains.{chain_first, chain_split}
 use Rattle.tree.specs.Ancestors.{Above, itself, further, on}
 
 pub on_here : (x y : ℕ) (ys : List ℕ) → x ≡ y → on (y ∷ ys) x ≡ true

@@ -1,8 +1,8 @@
 -- The meaning of a tree is well formed.
 use Rattle.std.proofs.lemmas.Bool.{cond-true}
 use Rattle.orderings.specs.Meaning.{WellFormed}
-use Rattle.scopes.specs.Frames.{chain}
-use Rattle.scopes.proofs.Placed.{formed_placed}
+use Rattle.orderings.specs.Store.{chain}
+use Rattle.orderings.specs.Formation.{formed_placed}
 use Rattle.tree.specs.declared.Tree.{Tree}
 use Rattle.tree.specs.Ancestors.{on}
 use Rattle.tree.specs.Chains.{main_open}

@@ -3,7 +3,8 @@ use Rattle.std.specs.Prelude.{◌≡◌, ℕ, suc, ◌+◌, ◌-◌, ◌<◌, Bo
 use Rattle.orderings.specs.declared.words.Kind.TheVariants.{Task}
 use Rattle.tree.specs.declared.node.Node.{Node}
 use Rattle.tree.specs.declared.nodes.Nodes.{Nodes}
-use Rattle.scopes.specs.Frames.{Frames, chain, Framed}
+use Rattle.orderings.specs.Store.{Frames, chain}
+use Rattle.orderings.specs.Sound.{Framed}
 use Rattle.tree.specs.Ancestors.{on}
 
 -- the nodes by number

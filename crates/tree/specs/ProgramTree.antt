@@ -7,8 +7,8 @@ use Rattle.orderings.specs.declared.words.Word.{Word}
 use Rattle.orderings.specs.declared.words.Word.TheVariants.{Before, Unordered}
 use Rattle.tree.specs.declared.Tree.{Tree}
 use Rattle.orderings.specs.Meaning.{Meaning}
-use Rattle.scopes.specs.Frames.{Frames, chain}
-use Rattle.scopes.specs.Placed.{placed}
+use Rattle.orderings.specs.Store.{Frames, chain}
+use Rattle.orderings.specs.Placed.{placed}
 use Rattle.tree.specs.Ancestors.{Above, ChildTowards, on, side}
 use Rattle.tree.specs.Nodes.{all, shape, marks, Turns}
 

@@ -4,9 +4,9 @@ use mathlib.Core.Bool.{Bool-set}
 use mathlib.Core.HLevel.{Π_prop}
 use mathlib.Core.Logic.{∥∥₁_elim}
 use native.Mathlib.Nat.{ℕ_set}
-use Rattle.scopes.specs.Frames.{Frames}
+use Rattle.orderings.specs.Store.{Frames}
 use Rattle.tree.specs.Nodes.{Marks, Marked, SoundTree}
-use Rattle.scopes.proofs.Props.{framed_prop}
+use Rattle.orderings.specs.Props.{framed_prop}
 
 marked_prop : (fr : Frames) (m : Marks) (n y : ℕ) (a b : Marked fr m n y) → a ≡ b
 marked_prop fr m n y a b = λ i. record {

@@ -1,6 +1,9 @@
 //! Walks through a plan in shorthand: each action, and what the check answers, in words.
 #![tactic(auto)]
 
+ghost use Rattle.std.specs.Prelude.{◌≡◌, OnOk, OnErr};
+ghost use Rattle.std.specs.Process.{exit_status};
+
 mod calls;
 mod input;
 mod lines;
@@ -21,12 +24,21 @@ fn walk(rt: &HostRuntime) -> Result<(), Stop> {
     Ok(())
 }
 
-fn main(rt: HostRuntime) -> ExitCode {
-    match walk(&rt) {
+/// Status 0 after a walk; where there is none, the reason on standard error, and status 1.
+fn ended(rt: &HostRuntime, walked: Result<(), Stop>) -> ExitCode
+    ensures ok { OnOk walked (exit_status result ≡ 0) }
+    ensures err { OnErr walked (exit_status result ≡ 1) }
+{
+    match walked {
         Ok(()) => ExitCode::SUCCESS,
         Err(stop) => {
             let _ = eprintln!(rt; "{stop}");
             ExitCode::FAILURE
         }
     }
+}
+
+fn main(rt: HostRuntime) -> ExitCode {
+    let walked = walk(&rt);
+    ended(&rt, walked)
 }

@@ -3,11 +3,11 @@ use Rattle.std.proofs.lemmas.List.{length-map}
 use Rattle.tree.specs.declared.Tree.{Tree}
 use Rattle.tree.specs.declared.node.Node.{Node}
 use Rattle.orderings.specs.Meaning.{scope_as}
-use Rattle.scopes.specs.Frames.{chain}
+use Rattle.orderings.specs.Store.{chain}
 use Rattle.tree.specs.Nodes.{all, no_node, node_at, marks}
 use Rattle.tree.specs.ProgramTree.{tree, meaning}
-use Rattle.scopes.proofs.Placed.{closing_alone}
-use Rattle.scopes.proofs.Tables.{entry_write}
+use Rattle.orderings.proofs.Placed.{closing_alone}
+use Rattle.orderings.proofs.Tables.{entry_write}
 use Rattle.tree.specs.Props.{reveal_tree}
 use Rattle.tree.proofs.Closes.{inner_not_main, parent_low, closing_closed}
 use Rattle.tree.proofs.Writes.{shut, tree_shut, placed_shut}

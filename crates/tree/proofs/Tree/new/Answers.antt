@@ -1,7 +1,7 @@
 use Rattle.std.proofs.Common.{◌≡◌, ◌+◌, ◌-◌, min, [], ◌∷◌, length, arith}
 use Rattle.graph.specs.History.{task, before}
 use Rattle.orderings.specs.Meaning.{task_at}
-use Rattle.scopes.specs.Frames.{chain}
+use Rattle.orderings.specs.Store.{chain}
 use Rattle.tree.proofs.Making.{sound_root}
 use Rattle.tree.proofs.Tree.new.Goals as goal
 

@@ -7,7 +7,7 @@ use Rattle.tree.specs.declared.Tree.{Tree}
 use Rattle.tree.specs.declared.node.Node.{Node}
 use Rattle.tree.specs.Nodes.{all, no_node, node_at, marks, jump_under}
 use Rattle.tree.specs.ProgramTree.{tree}
-use Rattle.scopes.proofs.Tables.{entry_write}
+use Rattle.orderings.proofs.Tables.{entry_write}
 use Rattle.tree.proofs.Jumps.{leads}
 use Rattle.tree.specs.Props.{reveal_tree}
 use Rattle.tree.proofs.Writes.{Fits, tree_opened, placed_opened}

@@ -6,7 +6,7 @@ use Rattle.orderings.specs.declared.words.Fault.TheVariants.{NoSuchTask}
 use Rattle.tree.specs.declared.Tree.{Tree}
 use Rattle.tree.specs.declared.node.Node.{Node}
 use Rattle.tree.specs.ProgramTree.{tree, place_of, Query}
-use Rattle.scopes.proofs.Placed.{asked_none, asked_finish}
+use Rattle.orderings.proofs.Placed.{asked_none, asked_finish}
 use Rattle.tree.proofs.Search.{opens, not_live, side_begun, within_48, within_3_log, answers_open, answers_closed}
 use Rattle.tree.proofs.Tree.word_of.Goals as goal
 

@@ -7,7 +7,7 @@ use Rattle.orderings.specs.Sound.{Sound, Closable}
 use Rattle.orderings.specs.Bags.{meaning, meaning_of}
 use Rattle.orderings.specs.Props.{reveal}
 use Rattle.orderings.proofs.Closes.{outer_low}
-use Rattle.orderings.proofs.Closed.{closing_alone}
+use Rattle.orderings.proofs.Placed.{closing_alone}
 use Rattle.orderings.proofs.Closing.{sound_after, answer_after, meaning_after}
 use Rattle.orderings.proofs.bags.Bags.close_scope.Goals as goal
 

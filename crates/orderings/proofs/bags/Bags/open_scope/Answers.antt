@@ -8,7 +8,8 @@ use Rattle.orderings.specs.Store.{entries, frames}
 use Rattle.orderings.specs.Bags.{meaning}
 use Rattle.orderings.proofs.Entries.{table_set}
 use Rattle.orderings.specs.Props.{reveal}
-use Rattle.orderings.proofs.Fresh.{fresh, Within, sound_opened, meaning_opened}
+use Rattle.orderings.proofs.FramedMore.{Within}
+use Rattle.orderings.proofs.Fresh.{fresh, sound_opened, meaning_opened}
 use Rattle.orderings.proofs.bags.Bags.open_scope.Goals.{in-Task, in-Finish}
 use Rattle.orderings.proofs.bags.Bags.open_scope.Goals as goal
 

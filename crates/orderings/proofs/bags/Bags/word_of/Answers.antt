@@ -3,7 +3,9 @@ use Rattle.orderings.specs.declared.bags.Bags.{Bags}
 use Rattle.orderings.specs.declared.bags.entry.Entry.{Entry}
 use Rattle.orderings.specs.Forest.{Shallow}
 use Rattle.orderings.specs.Store.{entries, forest, frames, contents}
-use Rattle.orderings.proofs.Asks.{asked_none, asked_main, asked_finish, asked_before, asked_unordered}
+use Rattle.orderings.specs.Bags.{place_of}
+use Rattle.orderings.proofs.Placed.{asked_none, asked_finish}
+use Rattle.orderings.proofs.Asks.{asked_main, asked_before, asked_unordered}
 use Rattle.orderings.proofs.Entries.{table_at}
 use Rattle.orderings.proofs.Forests.{shallow, root_some, root_inside}
 use Rattle.orderings.specs.Props.{reveal}
@@ -16,7 +18,7 @@ pub returns-then-task-self : goal.returns-then-task-self
 returns-then-task-self c =
     let b = c.args.self.now in
     let es : List Entry = entries b.store in
-    record { answer = sym (asked_none (frames es) (contents es) b.begun c.args.task c.if-task-self.true); steps = steps b }
+    record { answer = sym (asked_none (frames es) (place_of (contents es)) b.begun c.args.task c.if-task-self.true); steps = steps b }
 
 pub returns-then-task-eq0 : goal.returns-then-task-eq0
 returns-then-task-eq0 c =
@@ -45,7 +47,7 @@ returns-in-Finish c =
     let b = c.args.self.now in
     let es : List Entry = entries b.store in
     let read = ap (λ (e : Entry). e.kind) (table_at b.store.main b.store.table.now c.args.task (omega arith)) in
-    record { answer = sym (asked_finish (frames es) (contents es) b.begun c.args.task c.if-task-self.false (sym read ∙ c.in-Finish.is)); steps = steps b }
+    record { answer = sym (asked_finish (frames es) (place_of (contents es)) b.begun c.args.task c.if-task-self.false (sym read ∙ c.in-Finish.is)); steps = steps b }
 
 pub returns-then-self-root-eq0 : goal.returns-then-self-root-eq0
 returns-then-self-root-eq0 c =

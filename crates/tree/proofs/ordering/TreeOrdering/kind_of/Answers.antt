@@ -1,7 +1,7 @@
 use Rattle.std.proofs.Common.{Some, sym, ap, ◌∙◌}
 use Rattle.tree.specs.declared.node.Node.{Node}
 use Rattle.tree.specs.ProgramTree.{tree, place_of}
-use Rattle.scopes.proofs.Placed.{kind_some, kind_none}
+use Rattle.orderings.proofs.Placed.{kind_some, kind_none}
 use Rattle.tree.proofs.ordering.TreeOrdering.kind_of.Goals as goal
 
 pub returns-then-number-self : goal.returns-then-number-self

@@ -3,9 +3,11 @@ use Rattle.std.proofs.Common.{◌≡◌, ℕ, ◌+◌, ◌<◌, ◌≢◌, ◌�
 use Rattle.std.proofs.lemmas.Bool.{cases_lt}
 use Rattle.orderings.specs.declared.words.Kind.{Kind}
 use Rattle.orderings.specs.declared.words.Kind.TheVariants.{Task, Finish}
-use Rattle.scopes.specs.Frames.{Frames, chain, Framed}
-use Rattle.scopes.proofs.Chains.{chain_more, chain_agree, chain_steady}
-use Rattle.scopes.proofs.Scopes.{outer}
+use Rattle.orderings.specs.Store.{Frames, chain}
+use Rattle.orderings.specs.Sound.{Framed}
+use Rattle.orderings.specs.Chains.{chain_more}
+use Rattle.orderings.proofs.Chains.{chain_agree, chain_steady}
+use Rattle.orderings.proofs.Scopes.{outer}
 
 -- frames with a scope n more, of kind k and within the scope s
 pub record FramedMore (fr gr : Frames) (n s : ℕ) (k : Kind) : Type 0 where

@@ -1,5 +1,5 @@
 -- What scopes in their frames and tasks at their places mean: what is asked of them, and the steps.
-use Rattle.std.proofs.Common.{◌≡◌, ℕ, zero, suc, ◌+◌, ◌-◌, ◌<◌, ◌≤◌, min, false, leb, ◌≢◌, List, [], ◌∷◌, ◌++◌, map, length, Some, None, Ok, Err, sym, refl, ap, ◌∙◌, subst, ⊎_elim, arith}
+use Rattle.std.proofs.Common.{◌≡◌, ℕ, ◌+◌, ◌-◌, ◌<◌, ◌≤◌, min, false, leb, ◌≢◌, List, [], ◌∷◌, ◌++◌, length, Some, None, Ok, Err, sym, refl, ap, ◌∙◌, ⊎_elim, arith}
 use mathlib.Core.List.{map-map}
 use Rattle.std.proofs.lemmas.Bool.{cond-true, cond-false, lt-leb, le-leb}
 use Rattle.std.proofs.lemmas.List.{length-map}
@@ -9,49 +9,35 @@ use Rattle.graph.specs.History.{Scope, Place, before, moved, outward}
 use Rattle.orderings.specs.declared.words.Kind.{Kind}
 use Rattle.orderings.specs.declared.words.Kind.TheVariants.{Task, Finish}
 use Rattle.orderings.specs.declared.words.Fault.TheVariants.{NoSuchTask, MainAlone}
-use Rattle.orderings.specs.Meaning.{Meaning, Begun, task_at, Fall, WellFormed, scope_as, begun_as, with_scope, shifted, closing, after_close, word, word_of, asked, kind, kind_at}
-use Rattle.scopes.specs.Frames.{Frames, chain, Framed}
-use Rattle.scopes.specs.Placed.{placed, begun_at}
-use Rattle.scopes.proofs.Chains.{chain_split}
-use Rattle.scopes.proofs.Scopes.{cases_kind, same_counted, at_some, at_none, scopes_of, scopes_agree, innermost_is, outermost_is, falls}
-use Rattle.scopes.proofs.FramedMore.{FramedMore, new_first}
-
--- the scopes begun
-abbrev pub begun : Frames → (ℕ → Place) → ℕ → List Begun
-begun fr place n = map (λ x. begun_at (fr.kind x) (place x)) (range_with_len 0 n)
+use Rattle.orderings.specs.Meaning.{Meaning, Begun, task_at, scope_as, begun_as, with_scope, shifted, closing, after_close, word, word_of, asked, kind, kind_at}
+use Rattle.orderings.specs.Store.{Frames, chain}
+use Rattle.orderings.specs.Sound.{Framed}
+use Rattle.orderings.specs.Placed.{scopes_begun, placed}
+use Rattle.orderings.specs.Bags.{begun_at}
+use Rattle.orderings.proofs.Chains.{chain_split}
+use Rattle.orderings.proofs.Scopes.{cases_kind, same_counted, at_some, at_none, scopes_agree, innermost_is}
+use Rattle.orderings.specs.Formation.{scopes_of}
+use Rattle.orderings.proofs.FramedMore.{FramedMore, new_first}
 
 module _ (fr : Frames) (place : ℕ → Place) (n t : ℕ) where
-  pub asked_none : n ≤ t → asked (begun fr place n) t ≡ Err NoSuchTask
+  pub asked_none : n ≤ t → asked (scopes_begun fr place n) t ≡ Err NoSuchTask
   asked_none l = ap word_of (at_none (λ x. begun_at (fr.kind x) (place x)) n t l)
 
-  pub asked_finish : t < n → fr.kind t ≡ Finish → asked (begun fr place n) t ≡ Err NoSuchTask
+  pub asked_finish : t < n → fr.kind t ≡ Finish → asked (scopes_begun fr place n) t ≡ Err NoSuchTask
   asked_finish l e = ap word_of (at_some (λ x. begun_at (fr.kind x) (place x)) n t l ∙ ap (λ (k : Kind). Some (begun_at k (place t))) e)
 
-  pub asked_task : t < n → fr.kind t ≡ Task → asked (begun fr place n) t ≡ Ok (word (place t))
+  pub asked_task : t < n → fr.kind t ≡ Task → asked (scopes_begun fr place n) t ≡ Ok (word (place t))
   asked_task l e = ap word_of (at_some (λ x. begun_at (fr.kind x) (place x)) n t l ∙ ap (λ (k : Kind). Some (begun_at k (place t))) e)
 
-  pub kind_some : t < n → kind_at (begun fr place n) t ≡ Some (fr.kind t)
+  pub kind_some : t < n → kind_at (scopes_begun fr place n) t ≡ Some (fr.kind t)
   kind_some l = ap kind (at_some (λ x. begun_at (fr.kind x) (place x)) n t l) ∙ same (fr.kind t)
     where
       same : (k : Kind) → kind (Some (begun_at k (place t))) ≡ Some k
       same Task = refl
       same Finish = refl
 
-  pub kind_none : n ≤ t → kind_at (begun fr place n) t ≡ None
+  pub kind_none : n ≤ t → kind_at (scopes_begun fr place n) t ≡ None
   kind_none l = ap kind (at_none (λ x. begun_at (fr.kind x) (place x)) n t l)
-
-pub formed_placed : (fr : Frames) (place : ℕ → Place) (cap n s : ℕ) → Framed fr n → s < n → place 0 ≡ before 0 → WellFormed (placed fr place cap n s)
-formed_placed fr place cap n s w l at-main = record {
-  main = first n l;
-  outermost = outermost_is fr n w n s l l;
-  falling = subst (λ (k : ℕ). Fall k (scopes_of fr (chain fr.outward n s))) (sym (length-map-range_with_len (λ x. begun_at (fr.kind x) (place x)) 0 n)) (falls fr n w n s n l l l);
-}
-  where
-    first : (n : ℕ) → s < n → (rest : List Begun) × (begun fr place n ≡ task_at (before 0) ∷ rest)
-    first zero l = absurd (omega arith)
-    first (suc n) l =
-        let rest : List Begun = map (λ x. begun_at (fr.kind x) (place x)) (range_with_len 1 n) in
-        (rest, λ j. begun_at (w.main j) (at-main j) ∷ rest)
 
 -- the step of an open: the tasks begun before keep their places, and a new one is before at itself
 pub placed_open :
@@ -59,12 +45,12 @@ pub placed_open :
     → ((i : ℕ) → i < n → place' i ≡ place i) → place' n ≡ before n
     → placed gr place' cap (n + 1) n ≡ with_scope k (placed fr place cap n s)
 placed_open fr gr place place' cap n s k w inside F stay own =
-    let len : n ≡ length (begun fr place n) = sym (length-map-range_with_len (λ x. begun_at (fr.kind x) (place x)) 0 n) in
+    let len : n ≡ length (scopes_begun fr place n) = sym (length-map-range_with_len (λ x. begun_at (fr.kind x) (place x)) 0 n) in
     let opened-same = ap (scopes_of gr) (new_first fr gr n s k w inside F) ∙ (λ j. scope_as (F.new_kind j) (len j) ∷ scopes_agree fr n w gr F.kinds F.outwards n s inside j) in
     let begun-same =
     map-range_with_len_more (λ x. begun_at (gr.kind x) (place' x)) 0 n n (omega arith)
     ∙ ap (λ (l : List Begun). l ++ begun_at (gr.kind n) (place' n) ∷ []) (same_counted _ (λ x. begun_at (fr.kind x) (place x)) n (λ i l. λ j. begun_at (F.kinds i l j) (stay i l j)))
-    ∙ ap (λ (x : Begun). begun fr place n ++ x ∷ []) ((λ j. begun_at (F.new_kind j) (own j)) ∙ fresh k ∙ ap (begun_as k) len) in
+    ∙ ap (λ (x : Begun). scopes_begun fr place n ++ x ∷ []) ((λ j. begun_at (F.new_kind j) (own j)) ∙ fresh k ∙ ap (begun_as k) len) in
     let left-same : min cap 65535 + 1 - (n + 1) ≡ min cap 65535 + 1 - n - 1 = omega arith in
     λ j. record { opened = opened-same j; begun = begun-same j; left = left-same j }
   where
