@@ -17,6 +17,7 @@ pub record Live (c : Contents) (n k : ℕ) : Type 0 where
   pub top : c.forest.parent (c.head k) ≡ c.head k
   pub named : 0 < c.head k → c.bag (c.head k) ≡ k
 
+-- a fact of each scope on a list
 abbrev pub Each : (ℕ → Type 0) → List ℕ → Type 0
 Each P [] = Unit {0}
 Each P (x ∷ xs) = P x × Each P xs

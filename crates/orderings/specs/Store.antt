@@ -16,7 +16,7 @@ empty = record { kind = Task; rank = 0; parent = 0; bag = 0; outward = 0; within
 abbrev pub entry_at : List Entry → ℕ → Entry
 entry_at es n = slice_index_or es n empty
 
--- what the entries say of the scopes
+-- what the entries say of the scopes: of each its kind, the scope next outward, and the innermost task at it or outward of it
 pub record Frames : Type 0 where
   pub kind : ℕ → Kind
   pub outward : ℕ → ℕ
