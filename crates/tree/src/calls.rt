@@ -29,8 +29,8 @@ impl<'t> Tree<'t> {
 
 impl Tree<'_> {
     /// The word of a task, by the tree. An open task is before. A closed one is unordered if, at its least common ancestor with the
-    /// innermost open scope, the child on its side is a task. The search for that child takes at most three times log2 n turns among
-    /// n scopes begun, so 48 at most.
+    /// innermost open scope, the child on its side is a task. A search for that child by jumps and parents ends within three times
+    /// log2 n turns among n scopes begun, so within 48; the loop here has no more.
     pub fn word_of(&self, task: u32) -> Result<Word, Fault>
         ensures answer { result ≡ asked (meaning_of self.now).begun task }
         ensures query { (w : Word) → result ≡ Ok w → Query self.now task w }

@@ -28,7 +28,8 @@ impl<'t> Bags<'t> {
 }
 
 impl Bags<'_> {
-    /// The word of a task, found by a search from its element up to the root. The search takes at most log2 n steps among n scopes begun.
+    /// The word of a task, found by a search from its element up to the root. An element lies at most log2 n
+    /// steps below its root among n scopes begun.
     pub fn word_of(&self, task: u32) -> Result<Word, Fault>
         ensures answer { result ≡ asked (meaning_of self.now).begun task }
         ensures steps { Shallow (forest (entries self.now.store)) self.now.begun }
