@@ -58,7 +58,7 @@ fn place_of(slots: &[Slot], class: u32) -> usize
 }
 
 /// Whether a filled slot is whole before the others.
-#[tactic(auto, using(crate::proofs::Looking::held_as))]
+#[tactic(auto, using(crate::proofs::Filled::held_as))]
 fn slot_is_whole<O: Ordering, R: ClashRule>(
     slot: Slot,
     others: &[Slot],
@@ -126,7 +126,7 @@ impl Row {
     }
 
     /// The leader of a class, none before the first access of the class. A row with a count above 8 has none.
-    #[tactic(auto, using(crate::proofs::Looking::leader_as))]
+    #[tactic(auto, using(crate::proofs::Filled::leader_as))]
     pub fn leader(&self, class: u32) -> Option<Leader>
         ensures { result ≡ row_leader self.now «class» }
     {

@@ -1,4 +1,4 @@
-use Rattle.std.proofs.Common.{◌≡◌, ◌≤◌, Ok, sym, refl, ap, ◌∙◌, lt-ltb, rules}
+use Rattle.std.proofs.Common.{◌≡◌, ◌≤◌, sym, lt-ltb, rules}
 use Rattle.rows.specs.Rows.{filled}
 use Rattle.rows.proofs.Filled.{answered}
 use Rattle.rows.proofs.row.Row.access.Goals as goal
@@ -9,4 +9,4 @@ returns-clause-answer g c sound =
     let all : c.in_ok-slots.slots.now ≡ filled c.args.self.now = search rules in
     let a = answered (g.R.ClashRule.known c.args.rule.now) (g.R.ClashRule.clash c.args.rule.now) (g.O.Ordering.meaning c.args.ordering.now) c.args.event c.args.«class» c.args.self.now c.in_ok-slots.slots.now few all (c.if-not-is_whole.ensures sound) in
     let room = lt-ltb c.place_of-place.result 8 c.if-place-ge-SLOTS.false in
-    ap Ok (c.look-clash.ensures.answer sound) ∙ sym (a ∙ simp (sym c.place_of-place.ensures, room) refl)
+    simp (c.look-clash.ensures.answer sound, a, sym c.place_of-place.ensures, room)
