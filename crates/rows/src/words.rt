@@ -2,7 +2,7 @@
 ghost use Rattle.std.specs.Prelude.{◌≡◌};
 ghost use Rattle.rows.specs.Numbers.{fault_code};
 
-use orderings::Code;
+use refusals::{Code, Layer};
 
 /// What an access finds: nothing, or a clash with an earlier access. A clash carries the event numbers of the two, the earlier first.
 #[derive(Clone, Copy)]
@@ -35,6 +35,9 @@ impl RowFault {
             RowFault::Full => 24,
             RowFault::Damaged => 25,
         };
-        Code { number, layer: 3 }
+        Code {
+            number,
+            layer: Layer::Check,
+        }
     }
 }
