@@ -1,5 +1,6 @@
 -- What settling does to a row, by the place of the class.
-use Rattle.std.proofs.Common.{◌≡◌, ℕ, suc, ◌+◌, ◌<◌, ◌≤◌, Bool, true, false, cond, eqb, List, [], ◌∷◌, ◌++◌, length, get_or, drop, set, sym, refl, ap, ◌∙◌, add-one, arith, get_or-take}
+use Rattle.std.proofs.Common.{◌≡◌, ℕ, suc, ◌+◌, ◌<◌, ◌≤◌, Bool, true, false, cond, not, eqb, List, [], ◌∷◌, ◌++◌, length, get_or, drop, set, sym, refl, ap, ◌∙◌, add-one, arith, get_or-take}
+use Rattle.std.proofs.Math.Numerals.{one-add}
 use Rattle.std.proofs.lemmas.List.{length-take-le, length-set, length_push, take-append-drop, set-append_left, set_split, append_assoc}
 use Rattle.rows.specs.declared.row.Row.{Row}
 use Rattle.rows.specs.declared.row.Slot.{Slot}
@@ -8,32 +9,32 @@ use Rattle.rows.specs.Rows.{no_slot, filled, refilled}
 use Rattle.rows.proofs.Filled.{index_le}
 
 module _ (free : ℕ → Bool) (new : Slot) where
-  abbrev place : List Slot → ℕ
-  place l = index_of new.class l
+  abbrev here : List Slot → ℕ
+  here l = index_of new.class l
 
-  settled_new : (l : List Slot) → length l ≤ place l → settled free new l ≡ l ++ new ∷ []
+  settled_new : (l : List Slot) → length l ≤ here l → settled free new l ≡ l ++ new ∷ []
   settled_new [] h = refl
   settled_new (s ∷ l) h = go (eqb s.class new.class) (λ k. settled_new l k) h
     where
-      go : (b : Bool) → (length l ≤ place l → settled free new l ≡ l ++ new ∷ []) → suc (length l) ≤ cond b 0 (suc (place l)) → cond b (cond (free s.task) s new ∷ l) (s ∷ settled free new l) ≡ s ∷ (l ++ new ∷ [])
+      go : (b : Bool) → (length l ≤ here l → settled free new l ≡ l ++ new ∷ []) → suc (length l) ≤ cond (not b) (1 + here l) 0 → cond b (cond (free s.task) s new ∷ l) (s ∷ settled free new l) ≡ s ∷ (l ++ new ∷ [])
       go true ih k = absurd (omega arith)
       go false ih k = ap (λ (r : List Slot). s ∷ r) (ih (omega arith))
 
-  settled_stays : (l : List Slot) → place l < length l → free (get_or l (place l) no_slot).task ≡ true → settled free new l ≡ l
+  settled_stays : (l : List Slot) → here l < length l → free (get_or l (here l) no_slot).task ≡ true → settled free new l ≡ l
   settled_stays [] h f = absurd (omega arith)
   settled_stays (s ∷ l) h f = go (eqb s.class new.class) (λ k e. settled_stays l k e) h f
     where
-      go : (b : Bool) → (place l < length l → free (get_or l (place l) no_slot).task ≡ true → settled free new l ≡ l) → cond b 0 (suc (place l)) < suc (length l) → free (get_or (s ∷ l) (cond b 0 (suc (place l))) no_slot).task ≡ true → cond b (cond (free s.task) s new ∷ l) (s ∷ settled free new l) ≡ s ∷ l
+      go : (b : Bool) → (here l < length l → free (get_or l (here l) no_slot).task ≡ true → settled free new l ≡ l) → cond (not b) (1 + here l) 0 < suc (length l) → free (get_or (s ∷ l) (cond (not b) (1 + here l) 0) no_slot).task ≡ true → cond b (cond (free s.task) s new ∷ l) (s ∷ settled free new l) ≡ s ∷ l
       go true ih k e = rw e
-      go false ih k e = ap (λ (r : List Slot). s ∷ r) (ih (omega arith) e)
+      go false ih k e = ap (λ (r : List Slot). s ∷ r) (ih (omega arith) (rw one-add at e))
 
-  settled_over : (l : List Slot) → place l < length l → free (get_or l (place l) no_slot).task ≡ false → settled free new l ≡ set l (place l) new
+  settled_over : (l : List Slot) → here l < length l → free (get_or l (here l) no_slot).task ≡ false → settled free new l ≡ set l (here l) new
   settled_over [] h f = absurd (omega arith)
   settled_over (s ∷ l) h f = go (eqb s.class new.class) (λ k e. settled_over l k e) h f
     where
-      go : (b : Bool) → (place l < length l → free (get_or l (place l) no_slot).task ≡ false → settled free new l ≡ set l (place l) new) → cond b 0 (suc (place l)) < suc (length l) → free (get_or (s ∷ l) (cond b 0 (suc (place l))) no_slot).task ≡ false → cond b (cond (free s.task) s new ∷ l) (s ∷ settled free new l) ≡ set (s ∷ l) (cond b 0 (suc (place l))) new
+      go : (b : Bool) → (here l < length l → free (get_or l (here l) no_slot).task ≡ false → settled free new l ≡ set l (here l) new) → cond (not b) (1 + here l) 0 < suc (length l) → free (get_or (s ∷ l) (cond (not b) (1 + here l) 0) no_slot).task ≡ false → cond b (cond (free s.task) s new ∷ l) (s ∷ settled free new l) ≡ set (s ∷ l) (cond (not b) (1 + here l) 0) new
       go true ih k e = rw e
-      go false ih k e = ap (λ (r : List Slot). s ∷ r) (ih (omega arith) e)
+      go false ih k e = rw one-add (ap (λ (r : List Slot). s ∷ r) (ih (omega arith) (rw one-add at e)))
 
 row_eq : (count : ℕ) (slots : List Slot) (row : Row) → count ≡ row.count → slots ≡ row.slots → record { count = count; slots = slots } ≡ row
 row_eq count slots row e f = ap (λ (k : ℕ). record { count = k; slots = slots }) e ∙ ap (λ (l : List Slot). record { count = row.count; slots = l }) f
@@ -73,14 +74,11 @@ module _ (row : Row) (le : row.count ≤ length row.slots) where
     leader_task : i < row.count → free (get_or (filled row) (index_of x.class (filled row)) no_slot).task ≡ free (get_or row.slots i no_slot).task
     leader_task h = ap (λ (n : ℕ). free (get_or (filled row) n no_slot).task) (sym e) ∙ ap (λ (s : Slot). free s.task) (get_or-take row.count row.slots i no_slot h)
 
+    low : i < row.count → index_of x.class (filled row) < length (filled row)
+    low h = let f = full in omega arith
+
     pub taken_over : i < row.count → free (get_or row.slots i no_slot).task ≡ false → record { count = row.count; slots = set row.slots i x } ≡ after
-    taken_over h p =
-        let f = full in
-        let low : index_of x.class (filled row) < length (filled row) = omega arith in
-        sym (ap (refilled row) (settled_over free x (filled row) low (leader_task h ∙ p) ∙ ap (λ (n : ℕ). set (filled row) n x) (sym e)) ∙ refilled_set i x h)
+    taken_over h p = sym (ap (refilled row) (settled_over free x (filled row) (low h) (leader_task h ∙ p) ∙ ap (λ (n : ℕ). set (filled row) n x) (sym e)) ∙ refilled_set i x h)
 
     pub stayed : i < row.count → free (get_or row.slots i no_slot).task ≡ true → row ≡ after
-    stayed h p =
-        let f = full in
-        let low : index_of x.class (filled row) < length (filled row) = omega arith in
-        sym (ap (refilled row) (settled_stays free x (filled row) low (leader_task h ∙ p)) ∙ refilled_same)
+    stayed h p = sym (ap (refilled row) (settled_stays free x (filled row) (low h) (leader_task h ∙ p)) ∙ refilled_same)

@@ -4,7 +4,8 @@ use lib.Chars.{codes}
 use Rattle.refusals.specs.declared.Code.{Code}
 use Rattle.refusals.specs.declared.Layer.TheVariants.{Check}
 use Rattle.orderings.specs.Numbers.{fault_code, fault_text}
-use Rattle.rows.specs.Numbers.{fault_code as row_code, fault_text as row_text}
+use Rattle.rows.specs.Numbers.{fault_code as row_code}
+use Rattle.rows.specs.Texts.{fault_text as row_text}
 use Rattle.trace_check.specs.declared.words.Refusal.{Refusal}
 use Rattle.trace_check.specs.declared.words.Refusal.TheVariants.{NoSuchRecord, UnknownClass, BadStart, LimitReached, ScopeOpen, AlreadyBegun, Row, Order}
 
