@@ -3,7 +3,7 @@ ghost use Rattle.std.specs.Prelude.{◌≡◌, Some};
 ghost use Rattle.rows.specs.Numbers.{fault_code};
 ghost use Rattle.rows.specs.Texts.{fault_text};
 
-use orderings::Code;
+use refusals::{Code, Layer};
 use std::error::Error;
 use std::fmt;
 
@@ -31,7 +31,10 @@ impl RowFault {
             RowFault::Full => 24,
             RowFault::Damaged => 25,
         };
-        Code { number, layer: 3 }
+        Code {
+            number,
+            layer: Layer::Check,
+        }
     }
 }
 
