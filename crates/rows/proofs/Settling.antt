@@ -30,7 +30,7 @@ module _ (row : Row) (le : row.count ≤ length row.slots) where
   full = length-take-le row.count row.slots le
 
   refilled_same : refilled row (filled row) ≡ row
-  refilled_same = rw full (rw take-append-drop refl)
+  refilled_same = rw (full, take-append-drop)
 
   refilled_set : (i : ℕ) (x : Slot) → i < row.count → refilled row (set (filled row) i x) ≡ record { count = row.count; slots = set row.slots i x }
   refilled_set i x h =
@@ -52,3 +52,6 @@ module _ (row : Row) (le : row.count ≤ length row.slots) where
 
     pub stayed : i < row.count → free (get_or row.slots i no_slot).task ≡ true → row ≡ after
     stayed h p = let f = full in let n = settled_stays free x (filled row) in grind (arith, refilled_same, get_or-take)
+
+-- the class is new, its leader is before, or its leader is unordered
+pub ruleset cases = (pushed, taken_over, stayed)

@@ -57,7 +57,7 @@ fn place_of(slots: &[Slot], class: u32) -> usize
         .unwrap_or(slots.len())
 }
 
-/// Whether a filled slot is whole before the others.
+/// Whether a filled slot, before the others, is whole.
 #[tactic(auto, using(crate::proofs::Filled::held_as))]
 fn slot_is_whole<O: Ordering, R: ClashRule>(
     slot: Slot,
@@ -134,7 +134,7 @@ impl Row {
     }
 
     /// Settles the leader of an access's class, which is held at `place` or would be.
-    #[tactic(auto, using(crate::proofs::Settling::pushed, crate::proofs::Settling::taken_over, crate::proofs::Settling::stayed))]
+    #[tactic(auto, using(crate::proofs::Settling::cases))]
     fn settle<O: Ordering>(&mut self, ordering: &mut O, place: usize, access: Slot)
         requires count { self.old.count ≤ 8 }
         requires place { place ≡ index_of access.class (filled self.old) }
@@ -158,8 +158,8 @@ impl Row {
         }
     }
 
-    /// Puts an access of a class by the innermost task, as the event of number `event`, to the row's record. It finds no clash, or one with an
-    /// earlier access: the event numbers of the two, the earlier first.
+    /// Puts an access of a class by the innermost task, as the event of number `event`, to the row's record. None is clear; a clash with an
+    /// earlier access is the event numbers of the two, the earlier first.
     #[tactic(auto, using(crate::proofs::Filled::answered))]
     pub fn access<O: Ordering, R: ClashRule>(
         &mut self,

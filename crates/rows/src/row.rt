@@ -9,7 +9,7 @@ pub struct Slot {
 }
 
 /// A row holds the leaders at its record, one for each class, in the order in which the classes reached it.
-// A caller lends whole rows, and hands in what it likes: a count above 8 is refused, so the slots stay an array with a count of the filled.
+// A caller lends its rows, and may hand in any count: so a count beside eight slots, and above 8 a refusal of its own.
 #[derive(Clone, Copy, Debug, PartialEq, Eq)]
 pub struct Row {
     pub count: usize,
