@@ -1,5 +1,5 @@
 -- The slots that hold the leaders answer right: a clash exactly when some earlier access clashes and has no path.
-use Rattle.std.proofs.Common.{◌≡◌, ℕ, Bool, true, false, cond, ◌&&◌, T, ◌⊎◌, List, [], ◌∷◌, length, sym, refl, ap, ◌∙◌, subst, inl, inr, arith}
+use Rattle.std.proofs.Common.{Some, None, Option, ◌≡◌, ℕ, Bool, true, false, cond, ◌&&◌, T, ◌⊎◌, List, [], ◌∷◌, length, sym, refl, ap, ◌∙◌, subst, inl, inr, arith}
 use mathlib.Core.Path.{subst⁻¹}
 use Rattle.graph.specs.History.{History, Accepted, Place, before, unordered, place, is_unordered, Unordered}
 use Rattle.graph.specs.Leaders.{LeaderClashes, AccessClashes}

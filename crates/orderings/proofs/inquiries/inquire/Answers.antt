@@ -1,19 +1,12 @@
-use Rattle.std.proofs.Common.{◌≡◌, ℕ, ◌<◌, List, length, get_or, take, Ok, ◌∙◌, subst, arith}
+use Rattle.std.proofs.Common.{◌≡◌, ℕ, ◌<◌, List, length, take, ◌∙◌, subst, arith}
 use Rattle.std.proofs.lemmas.List.{take_all}
-use Rattle.orderings.specs.declared.inquiries.Request.TheVariants.{Close}
-use Rattle.orderings.specs.declared.inquiries.Response.TheVariants.{Closed}
 use Rattle.orderings.specs.Meaning.{Meaning, WellFormed}
 use Rattle.orderings.specs.Inquiries.{Inquiry, after_requests, Inquired}
 use Rattle.orderings.proofs.Inquiring.{InTurn, one_turn, same_calls, inquired}
 use Rattle.orderings.proofs.inquiries.inquire.Goals as goal
 
-abbrev blank : Inquiry
-blank = record { call = Close; reply = Ok (Closed 0) }
-
 pub loop-inquiry-preserved : goal.loop-inquiry-preserved
 loop-inquiry-preserved g c =
-    let call = (get_or c.loop-inquiry.inquiries c.loop-inquiry.inquiry-index blank).call in
-    let x : Inquiry = record { call = call; reply = c.put-inquiry.result } in
     let l : c.loop-inquiry.inquiry-index < length c.loop-inquiry.inquiries = omega arith in
     let p = c.put-inquiry.ensures in (
       λ sound. p.kept (c.loop-inquiry.invariant.0 sound),
