@@ -10,7 +10,7 @@ use Rattle.conversation.specs.Exchanges.{Answer, Exchange}
 use Rattle.orderings.specs.Inquiries.{noted}
 use Rattle.conversation.specs.Replies.{Setting, reply_to, event_of, after, after_all, events}
 use Rattle.conversation.specs.Theorem.{RepliesRight}
-use Rattle.trace_check.specs.Calls.{View}
+use Rattle.trace_check.specs.View.{View}
 use Rattle.trace_check.specs.Puts.{Store, reply_of, left_by}
 use Rattle.conversation.specs.State.{State}
 use Rattle.conversation.proofs.Runs.{Good, good_after, after_append}
