@@ -1,5 +1,5 @@
 //! Lists of calls, and what each is answered.
-use conversation::{Exchange, converse};
+use conversation::{Exchange, converse, to_put};
 use orderings::{Bags, Entry, Fault, Kind, Ordering, Question, Told, Word};
 use rows::Row;
 use rules::{ClashRule, Field, Plain};
@@ -15,13 +15,6 @@ const CLEAR: Answer = Ok(Reply::Found(None));
 fn numbers(refusal: Refusal) -> (u8, u8) {
     let code = refusal.code();
     (code.number, u8::from(code.layer))
-}
-
-fn put(call: Call) -> Exchange {
-    Exchange {
-        call,
-        reply: Ok(Reply::Told(Told::Number(0))),
-    }
 }
 
 /// Puts the calls over bags on a table, and compares the answers.
@@ -45,16 +38,16 @@ fn answers<R: ClashRule>(
 #[test]
 fn a_ninth_class_is_refused(rt: HostRuntime) {
     let mut exchanges = [
-        put(Call::Access(0x01, 3)),
-        put(Call::Access(0x02, 3)),
-        put(Call::Access(0x03, 3)),
-        put(Call::Access(0x04, 3)),
-        put(Call::Access(0x05, 3)),
-        put(Call::Access(0x06, 3)),
-        put(Call::Access(0x07, 3)),
-        put(Call::Access(0x08, 3)),
-        put(Call::Access(0x09, 3)),
-        put(Call::Access(0x01, 3)),
+        to_put(Call::Access(0x01, 3)),
+        to_put(Call::Access(0x02, 3)),
+        to_put(Call::Access(0x03, 3)),
+        to_put(Call::Access(0x04, 3)),
+        to_put(Call::Access(0x05, 3)),
+        to_put(Call::Access(0x06, 3)),
+        to_put(Call::Access(0x07, 3)),
+        to_put(Call::Access(0x08, 3)),
+        to_put(Call::Access(0x09, 3)),
+        to_put(Call::Access(0x01, 3)),
     ];
     let mut wanted = [CLEAR; 10];
     wanted[8] = Err((24, 3));
@@ -71,9 +64,9 @@ fn a_ninth_class_is_refused(rt: HostRuntime) {
 #[test]
 fn a_table_of_one_entry_gives_one_number(rt: HostRuntime) {
     let mut exchanges = [
-        put(Call::Open(Kind::Task)),
-        put(Call::Close),
-        put(Call::Open(Kind::Finish)),
+        to_put(Call::Open(Kind::Task)),
+        to_put(Call::Close),
+        to_put(Call::Open(Kind::Finish)),
     ];
     let wanted = [Ok(Reply::Opened(1)), Ok(Reply::Closed(1)), Err((21, 4))];
     answers(
@@ -89,11 +82,11 @@ fn a_table_of_one_entry_gives_one_number(rt: HostRuntime) {
 #[test]
 fn an_empty_table_serves_main(rt: HostRuntime) {
     let mut exchanges = [
-        put(Call::Ask(Question::NumbersLeft)),
-        put(Call::Open(Kind::Task)),
-        put(Call::Access(1, 5)),
-        put(Call::Ask(Question::WordOf(0))),
-        put(Call::Close),
+        to_put(Call::Ask(Question::NumbersLeft)),
+        to_put(Call::Open(Kind::Task)),
+        to_put(Call::Access(1, 5)),
+        to_put(Call::Ask(Question::WordOf(0))),
+        to_put(Call::Close),
     ];
     let wanted = [
         Ok(Reply::Told(Told::Number(0))),
@@ -115,11 +108,11 @@ fn an_empty_table_serves_main(rt: HostRuntime) {
 #[test]
 fn the_limit_is_tested_first(rt: HostRuntime) {
     let mut exchanges = [
-        put(Call::Open(Kind::Task)),
-        put(Call::Close),
-        put(Call::Close),
-        put(Call::Access(7, 99)),
-        put(Call::Ask(Question::WordOf(1))),
+        to_put(Call::Open(Kind::Task)),
+        to_put(Call::Close),
+        to_put(Call::Close),
+        to_put(Call::Access(7, 99)),
+        to_put(Call::Ask(Question::WordOf(1))),
     ];
     let wanted = [
         Ok(Reply::Opened(1)),
@@ -141,16 +134,16 @@ fn the_limit_is_tested_first(rt: HostRuntime) {
 #[test]
 fn every_question_is_answered(rt: HostRuntime) {
     let mut exchanges = [
-        put(Call::Open(Kind::Finish)),
-        put(Call::Open(Kind::Task)),
-        put(Call::Ask(Question::InnermostTask)),
-        put(Call::Ask(Question::OpenCount)),
-        put(Call::Ask(Question::ScopesBegun)),
-        put(Call::Ask(Question::NumbersLeft)),
-        put(Call::Ask(Question::KindOf(1))),
-        put(Call::Ask(Question::WordOf(1))),
-        put(Call::Ask(Question::WordOf(2))),
-        put(Call::Ask(Question::WordOf(3))),
+        to_put(Call::Open(Kind::Finish)),
+        to_put(Call::Open(Kind::Task)),
+        to_put(Call::Ask(Question::InnermostTask)),
+        to_put(Call::Ask(Question::OpenCount)),
+        to_put(Call::Ask(Question::ScopesBegun)),
+        to_put(Call::Ask(Question::NumbersLeft)),
+        to_put(Call::Ask(Question::KindOf(1))),
+        to_put(Call::Ask(Question::WordOf(1))),
+        to_put(Call::Ask(Question::WordOf(2))),
+        to_put(Call::Ask(Question::WordOf(3))),
     ];
     let wanted = [
         Ok(Reply::Opened(1)),

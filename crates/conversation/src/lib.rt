@@ -16,7 +16,7 @@ mod theorem;
 mod words;
 
 pub use theorem::{facts_follow, worked_through};
-pub use words::{Ending, Exchange};
+pub use words::{Ending, Exchange, to_put};
 
 /// Puts each call in turn, and writes the reply beside it.
 fn run<O: Ordering, R: ClashRule>(
