@@ -4,7 +4,7 @@ use mathlib.Core.Path.{subst⁻¹}
 use Rattle.std.proofs.lemmas.List.{get_or-replicate, length-replicate}
 use Rattle.graph.specs.History.{History, Scope, scopes}
 use Rattle.orderings.specs.Meaning.{Meaning, WellFormed}
-use Rattle.orderings.specs.Inquiries.{calls_of}
+use Rattle.orderings.specs.Exchanges.{calls_of}
 use Rattle.orderings.specs.Past.{Means}
 use Rattle.orderings.proofs.Means.{means_new}
 use Rattle.rows.specs.declared.row.Row.{Row}

@@ -1,7 +1,7 @@
 -- A whole conversation with a check, from its start to its end.
 use Rattle.std.specs.Prelude.{◌≡◌, ℕ, ◌<◌, Bool, cond, List, length, Ok, Err, Result, ◌==◌, slice_index_or}
 use Rattle.graph.specs.History.{History, begun, scopes}
-use Rattle.orderings.specs.Inquiries.{calls_of}
+use Rattle.orderings.specs.Exchanges.{calls_of}
 use Rattle.orderings.specs.Meaning.{Meaning}
 use Rattle.orderings.specs.Past.{Means}
 use Rattle.rows.specs.declared.row.Row.{Row}

@@ -4,7 +4,7 @@
 ghost use Rattle.std.specs.Prelude.{◌≡◌, Err};
 ghost use Rattle.trace_check.specs.Puts.{store};
 ghost use Rattle.conversation.specs.State.{Ran};
-ghost use Rattle.orderings.specs.Inquiries.{calls_of};
+ghost use Rattle.orderings.specs.Exchanges.{calls_of};
 ghost use Rattle.conversation.specs.Conversation.{setting, end_answer, Conversed};
 
 use orderings::Ordering;

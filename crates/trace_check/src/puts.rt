@@ -42,8 +42,9 @@ impl Check {
         match call {
             Call::Open(kind) => self.open(ordering, kind).map(Reply::Opened),
             Call::Close => self.close(ordering).map(Reply::Closed),
-            Call::Access(class, record) =>
-                self.access(ordering, rule, rows, class, record).map(Reply::Found),
+            Call::Access(class, record) => self
+                .access(ordering, rule, rows, class, record)
+                .map(Reply::Found),
             Call::Ask(question) => Ok(Reply::Told(tell(ordering, question)?)),
         }
     }
