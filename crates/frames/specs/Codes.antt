@@ -1,12 +1,13 @@
--- The number and the layer of each refusal. Layer 1 is the line, layer 2 the frame.
-use Rattle.std.specs.Prelude.{ℕ}
+-- The number and the layer of each refusal.
+use Rattle.refusals.specs.declared.Code.{Code}
+use Rattle.refusals.specs.declared.Layer.TheVariants.{Line, Frame}
 use Rattle.frames.specs.declared.words.LineFault.{LineFault}
 use Rattle.frames.specs.declared.words.LineFault.TheVariants.{NoLine, UnknownKind, WrongLength}
 
-abbrev pub fault_code : LineFault → ℕ × ℕ
-fault_code NoLine = (1, 1)
-fault_code UnknownKind = (2, 2)
-fault_code WrongLength = (3, 2)
+abbrev pub fault_code : LineFault → Code
+fault_code NoLine = record { number = 1; layer = Line }
+fault_code UnknownKind = record { number = 2; layer = Frame }
+fault_code WrongLength = record { number = 3; layer = Frame }
 
-abbrev pub short_code : ℕ × ℕ
-short_code = (11, 2)
+abbrev pub short_code : Code
+short_code = record { number = 11; layer = Frame }

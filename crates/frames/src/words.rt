@@ -2,8 +2,10 @@
 ghost use Rattle.std.specs.Prelude.{◌≡◌};
 ghost use Rattle.frames.specs.Codes.{fault_code, short_code};
 
+use refusals::{Code, Layer};
+
 /// What a line says.
-#[derive(Clone, Copy)]
+#[derive(Clone, Copy, Debug, PartialEq, Eq)]
 pub enum Frame {
     Header { rule: u8, records: u16 },
     OpenTask,
@@ -15,7 +17,7 @@ pub enum Frame {
 }
 
 /// Why a line is refused.
-#[derive(Clone, Copy)]
+#[derive(Clone, Copy, Debug, PartialEq, Eq)]
 pub enum LineFault {
     /// Another character, no digits, an odd number of digits, or no byte 10 before the bytes end.
     NoLine,
@@ -26,27 +28,29 @@ pub enum LineFault {
 }
 
 impl LineFault {
-    /// The number of the refusal, and the layer that refuses.
-    pub fn code(self) -> (u8, u8)
+    pub fn code(self) -> Code
         ensures { result ≡ fault_code self }
     {
-        match self {
-            LineFault::NoLine => (1, 1),
-            LineFault::UnknownKind => (2, 2),
-            LineFault::WrongLength => (3, 2),
-        }
+        let (number, layer) = match self {
+            LineFault::NoLine => (1, Layer::Line),
+            LineFault::UnknownKind => (2, Layer::Frame),
+            LineFault::WrongLength => (3, Layer::Frame),
+        };
+        Code { number, layer }
     }
 }
 
 /// The buffer for a line is too short.
-#[derive(Clone, Copy)]
+#[derive(Clone, Copy, Debug, PartialEq, Eq)]
 pub struct ShortBuffer {}
 
 impl ShortBuffer {
-    /// The number of the refusal, and the layer that refuses.
-    pub fn code(self) -> (u8, u8)
+    pub fn code(self) -> Code
         ensures { result ≡ short_code }
     {
-        (11, 2)
+        Code {
+            number: 11,
+            layer: Layer::Frame,
+        }
     }
 }
