@@ -22,9 +22,9 @@ digit_put width i field rest d goal lt long h e g =
     ap reverse (take_more_set field i d (omega arith)) ∙ reverse-append (take i field) (d ∷ []) in (
       rest_lt left rest f,
       rw (put, e)
-      (sym (append_assoc (digits left (rest / 16)) (digit_for (rest % 16) ∷ []) (reverse (take i field)))
-      ∙ ap (λ (ds : List ℕ). ds ++ reverse (take i field)) (sym (digits_last left rest f))
-      ∙ subst (λ (n : ℕ). digits n rest ++ reverse (take i field) ≡ goal) s g),
+          (sym (append_assoc (digits left (rest / 16)) (digit_for (rest % 16) ∷ []) (reverse (take i field)))
+          ∙ ap (λ (ds : List ℕ). ds ++ reverse (take i field)) (sym (digits_last left rest f))
+          ∙ subst (λ (n : ℕ). digits n rest ++ reverse (take i field) ≡ goal) s g),
     )
 
 -- byte 10, put behind the digits

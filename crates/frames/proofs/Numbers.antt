@@ -70,8 +70,7 @@ pub digit_more : (ds : List ℕ) (i : ℕ) → i < length ds → length ds ≤ 8
     → (number (take (i + 1) ds) ≡ number (take i ds) * 16 + value (get_or ds i 0)) × (number (take (i + 1) ds) < 2 ^ 32)
 digit_more ds i h short =
     let long : length (take (i + 1) ds) ≤ 8 = omega (arith, length-take-le (i + 1) ds (omega arith)) in
-    let lt : 16 ^ length (take (i + 1) ds) ≤ 16 ^ 8 = pow-le-pow_right (lit< tt) long in
-    (
+    let lt : 16 ^ length (take (i + 1) ds) ≤ 16 ^ 8 = pow-le-pow_right (lit< tt) long in (
       ap number (take_more ds i 0 h) ∙ number_push (take i ds) (get_or ds i 0),
       omega (arith, number_lt (take (i + 1) ds), lt),
     )

@@ -4,6 +4,8 @@
 mod digits;
 mod kind;
 mod reading;
+#[cfg(test)]
+mod tests;
 mod words;
 mod writing;
 

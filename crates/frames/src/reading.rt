@@ -26,7 +26,7 @@ fn line_length(bytes: &[u8]) -> Option<usize>
     ensures long { IfSome result (λ n. (2 ≤ n) × (n < length bytes.now)) }
 {
     let count = leading_digits(bytes);
-    if count > 0 && count % 2 == 0 && count < bytes.len() && bytes[count] == b'\n' {
+    if count > 0 && count % 2 == 0 && bytes.get(count) == Some(&b'\n') {
         Some(count)
     } else {
         None

@@ -42,7 +42,7 @@ impl LineFault {
 
 /// The buffer for a line is too short.
 #[derive(Clone, Copy, Debug, PartialEq, Eq)]
-pub struct ShortBuffer {}
+pub struct ShortBuffer;
 
 impl ShortBuffer {
     pub fn code(self) -> Code

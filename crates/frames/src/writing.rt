@@ -69,7 +69,7 @@ fn put_line(buffer: &mut [u8], fields: &[(usize, u32)]) -> Result<usize, ShortBu
     ensures { LinePut (line_of fields.now) buffer.old buffer.new result }
 {
     if buffer.len() < LINE_ROOM {
-        return Err(ShortBuffer {});
+        return Err(ShortBuffer);
     }
     let mut at = 0;
     for &(width, number) in fields {
