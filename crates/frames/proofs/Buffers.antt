@@ -1,14 +1,12 @@
 -- Digits, fields and lines put into a buffer.
-use Rattle.std.proofs.Common.{◌≡◌, ℕ, suc, ◌+◌, ◌-◌, ◌/◌, ◌%◌, ◌^◌, ◌<◌, ◌≤◌, List, [], ◌∷◌, ◌++◌, length, get_or, take, drop, set, reverse, Ok, Err, sym, ap, ◌∙◌, subst, append_assoc, arith, length-append, take_all, take-take, take_at}
-use lib.Seq.{drop-append-add, set_at}
-use Rattle.std.proofs.lemmas.List.{take-append-drop, drop_more, drop-drop, take-set, drop-set, length_push, take_more_set, reverse-append}
+use Rattle.std.proofs.Common.{◌≡◌, ℕ, suc, ◌+◌, ◌-◌, ◌/◌, ◌%◌, ◌^◌, ◌<◌, ◌≤◌, List, [], ◌∷◌, ◌++◌, length, get_or, take, drop, set, reverse, Ok, Err, sym, ap, ◌∙◌, subst, append_assoc, arith, take_all}
+use Rattle.std.proofs.lemmas.List.{drop_more, length_push, take_more_set, reverse-append}
 use Rattle.std.proofs.lemmas.Bool.{cond_above}
 use Rattle.std.proofs.Math.Seq.{set-append_seam}
 use Rattle.frames.specs.Digits.{digit_for, digits}
 use Rattle.frames.specs.Layout.{Field, body, line_of}
 use Rattle.frames.specs.Putting.{line_room, over, LinePut}
-use Rattle.frames.proofs.Numbers.{rest_lt, digits_last, length_digits}
-use Rattle.frames.proofs.Fields.{body_more}
+use Rattle.frames.proofs.Numbers.{rest_lt, digits_last}
 
 -- one digit more, put behind those that stand already, the last of all first
 pub digit_put : (width i : ℕ) (field : List ℕ) (rest d : ℕ) (goal : List ℕ) → i < width → length field ≡ width → rest < 16 ^ (width - i)

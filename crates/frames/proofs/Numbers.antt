@@ -1,5 +1,5 @@
 -- Digits say their number, and a number is written by its digits.
-use Rattle.std.proofs.Common.{◌≡◌, ℕ, zero, suc, ◌+◌, ◌*◌, ◌/◌, ◌%◌, ◌^◌, ◌<◌, ◌≤◌, true, List, [], ◌∷◌, ◌++◌, length, get_or, take, drop, sym, refl, ap, ◌∙◌, subst, mod-lt, mul_assoc, div-lt_iff_lt-mul, add-mul, pow-suc, div-add-mod', arith, lit<, length-append, length-drop, length-take-le, take-add, pow-add}
+use Rattle.std.proofs.Common.{◌≡◌, ℕ, zero, suc, ◌+◌, ◌*◌, ◌/◌, ◌%◌, ◌^◌, ◌<◌, ◌≤◌, true, List, [], ◌∷◌, ◌++◌, length, get_or, take, drop, sym, refl, ap, ◌∙◌, subst, mod-lt, mul_assoc, div-lt_iff_lt-mul, add-mul, pow-suc, div-add-mod', arith, lit<, length-append, length-drop, length-take-le}
 use native.Mathlib.Nat.{pow-succ', pow-le-pow_right}
 use lib.Arith.{digits_lt, digits_div, digits_mod}
 use Rattle.std.proofs.lemmas.Bool.Decides.{nat_tests}

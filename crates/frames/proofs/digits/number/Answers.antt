@@ -1,4 +1,4 @@
-use Rattle.std.proofs.Common.{length, take_all, arith}
+use Rattle.std.proofs.Common.{take_all, arith}
 use Rattle.frames.proofs.Numbers.{number_lt, digit_more}
 use Rattle.frames.proofs.digits.number.Goals as goal
 
