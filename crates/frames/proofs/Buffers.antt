@@ -8,22 +8,24 @@ use Rattle.frames.specs.Layout.{Field, body, line_of}
 use Rattle.frames.specs.Putting.{line_room, over, LinePut}
 use Rattle.frames.proofs.Numbers.{rest_lt, digits_last}
 
--- one digit more, put behind those that stand already, the last of all first
-pub digit_put : (width i : ℕ) (field : List ℕ) (rest d : ℕ) (goal : List ℕ) → i < width → length field ≡ width → rest < 16 ^ (width - i)
-    → d ≡ digit_for (rest % 16) → digits (width - i) rest ++ reverse (take i field) ≡ goal
-    → (rest / 16 < 16 ^ (width - (i + 1))) × (digits (width - (i + 1)) (rest / 16) ++ reverse (take (i + 1) (set field i d)) ≡ goal)
-digit_put width i field rest d goal lt long h e g =
+-- one digit put behind those that stand already, the last of all first
+pub digit_put : (width i : ℕ) (field : List ℕ) (rest : ℕ) → i < width → length field ≡ width → rest < 16 ^ (width - i)
+    → digits (width - (i + 1)) (rest / 16) ++ reverse (take (i + 1) (set field i (digit_for (rest % 16)))) ≡ digits (width - i) rest ++ reverse (take i field)
+digit_put width i field rest lt long h =
     let left : ℕ = width - (i + 1) in
+    let d : ℕ = digit_for (rest % 16) in
     let s : width - i ≡ suc left = omega arith in
     let f : rest < 16 ^ suc left = subst (λ (n : ℕ). rest < 16 ^ n) s h in
     let put : reverse (take (i + 1) (set field i d)) ≡ d ∷ reverse (take i field) =
-    ap reverse (take_more_set field i d (omega arith)) ∙ reverse-append (take i field) (d ∷ []) in (
-      rest_lt left rest f,
-      rw (put, e)
-          (sym (append_assoc (digits left (rest / 16)) (digit_for (rest % 16) ∷ []) (reverse (take i field)))
-          ∙ ap (λ (ds : List ℕ). ds ++ reverse (take i field)) (sym (digits_last left rest f))
-          ∙ subst (λ (n : ℕ). digits n rest ++ reverse (take i field) ≡ goal) s g),
-    )
+    ap reverse (take_more_set field i d (omega arith)) ∙ reverse-append (take i field) (d ∷ []) in
+    rw (put, s)
+    (sym (append_assoc (digits left (rest / 16)) (d ∷ []) (reverse (take i field)))
+    ∙ ap (λ (ds : List ℕ). ds ++ reverse (take i field)) (sym (digits_last left rest f)))
+
+pub rest_fits : (width i rest : ℕ) → i < width → rest < 16 ^ (width - i) → rest / 16 < 16 ^ (width - (i + 1))
+rest_fits width i rest lt h =
+    let s : width - i ≡ suc (width - (i + 1)) = omega arith in
+    rest_lt (width - (i + 1)) rest (subst (λ (n : ℕ). rest < 16 ^ n) s h)
 
 -- byte 10, put behind the digits
 line_ended : (ds old : List ℕ) → length ds < length old → set (over ds old) (length ds) 10 ≡ over (ds ++ 10 ∷ []) old

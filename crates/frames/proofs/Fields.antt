@@ -8,11 +8,6 @@ use Rattle.frames.specs.Digits.{digits, is_digit}
 use Rattle.frames.specs.Layout.{Field, body, line_of, Fit}
 use Rattle.frames.proofs.Numbers.{IsDigit, all_digits, length_digits}
 
--- the first fields, and one more
-pub body_more : (fs : List Field) (i : ℕ) → i < length fs
-    → body (take (i + 1) fs) ≡ body (take i fs) ++ digits (get_or fs i (0, 0)).0 (get_or fs i (0, 0)).1
-body_more fs i h = ap body (take_more fs i (0, 0) h) ∙ sym (flat_map_more (λ (f : Field). digits f.0 f.1) [] (take i fs) (get_or fs i (0, 0)))
-
 -- the digits of one more field are within the line
 pub field_within : (fs : List Field) (i : ℕ) → i < length fs → length (body (take i fs)) + (get_or fs i (0, 0)).0 < length (line_of fs)
 field_within fs i h =

@@ -137,15 +137,3 @@ judged_at bytes r w x =
 
 pub judged : (bytes : List ℕ) (r : Answer) → r ≡ reading bytes → Judged bytes r
 judged bytes r e = subst (Judged bytes) (sym e) (judged_at bytes (reading bytes) (right bytes) (exact bytes))
-
-read_within : (bytes : List ℕ) (r : Answer) → Read bytes r → Within (length bytes) r
-read_within bytes (Ok p) w =
-    let taken : p.1 ≡ length (body (fields p.0)) + 1 = w.takes ∙ length_push (body (fields p.0)) 10 in
-    let long = simp length-append at (ap length w.begins) in
-    (omega arith, omega (arith, w.takes, long))
-read_within bytes (Err NoLine) w = tt
-read_within bytes (Err UnknownKind) w = tt
-read_within bytes (Err WrongLength) w = tt
-
-pub within : (bytes : List ℕ) (r : Answer) → r ≡ reading bytes → Within (length bytes) r
-within bytes r e = subst (Within (length bytes)) (sym e) (read_within bytes (reading bytes) (right bytes))

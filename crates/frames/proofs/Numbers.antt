@@ -1,6 +1,6 @@
 -- Digits say their number, and a number is written by its digits.
-use Rattle.std.proofs.Common.{◌≡◌, ℕ, zero, suc, ◌+◌, ◌*◌, ◌/◌, ◌%◌, ◌^◌, ◌<◌, ◌≤◌, true, List, [], ◌∷◌, ◌++◌, length, get_or, take, drop, sym, refl, ap, ◌∙◌, subst, mod-lt, mul_assoc, div-lt_iff_lt-mul, add-mul, pow-suc, div-add-mod', arith, lit<, length-append, length-drop, length-take-le}
-use native.Mathlib.Nat.{pow-succ', pow-le-pow_right}
+use Rattle.std.proofs.Common.{◌≡◌, ℕ, zero, suc, ◌+◌, ◌*◌, ◌/◌, ◌%◌, ◌^◌, ◌<◌, ◌≤◌, true, List, [], ◌∷◌, ◌++◌, length, get_or, take, drop, sym, refl, ap, ◌∙◌, subst, mod-lt, mul_assoc, div-lt_iff_lt-mul, add-mul, pow-suc, div-add-mod', arith, lit<, length-append, length-drop, length-take, length-take-le}
+use native.Mathlib.Nat.{pow-succ', pow-le-pow_right, one-le-pow}
 use lib.Arith.{digits_lt, digits_div, digits_mod}
 use Rattle.std.proofs.lemmas.Bool.Decides.{nat_tests}
 use Rattle.std.proofs.lemmas.List.{take-append-drop, take_more, length_push, drop-drop}
@@ -26,8 +26,7 @@ value_lt b = grind (arith, nat_tests)
 
 -- The number of digits, and back.
 pow_pos : (w : ℕ) → 0 < 16 ^ w
-pow_pos zero = lit< tt
-pow_pos (suc w) = let h : 0 < 16 ^ w = pow_pos w in omega (arith, pow-succ' 16 w)
+pow_pos w = one-le-pow w 16 (lit< tt)
 
 pub number_lt : (ds : List ℕ) → number ds < 16 ^ length ds
 number_lt [] = lit< tt
@@ -65,15 +64,21 @@ number_push (x ∷ xs) d =
     let long : length (xs ++ d ∷ []) ≡ suc (length xs) = omega (arith, length_push xs d) in
     rw (long, pow-suc 16 (length xs), number_push xs d) (omega (arith, mul_assoc (value x) (16 ^ length xs) 16, add-mul (value x * 16 ^ length xs) (number xs) 16))
 
--- one digit more, and the number still fits 32 bits
-pub digit_more : (ds : List ℕ) (i : ℕ) → i < length ds → length ds ≤ 8
-    → (number (take (i + 1) ds) ≡ number (take i ds) * 16 + value (get_or ds i 0)) × (number (take (i + 1) ds) < 2 ^ 32)
-digit_more ds i h short =
-    let long : length (take (i + 1) ds) ≤ 8 = omega (arith, length-take-le (i + 1) ds (omega arith)) in
-    let lt : 16 ^ length (take (i + 1) ds) ≤ 16 ^ 8 = pow-le-pow_right (lit< tt) long in (
-      ap number (take_more ds i 0 h) ∙ number_push (take i ds) (get_or ds i 0),
-      omega (arith, number_lt (take (i + 1) ds), lt),
-    )
+-- one digit more
+pub digit_more : (ds : List ℕ) (i : ℕ) → i < length ds → number (take (i + 1) ds) ≡ number (take i ds) * 16 + value (get_or ds i 0)
+digit_more ds i h = ap number (take_more ds i 0 h) ∙ number_push (take i ds) (get_or ds i 0)
+
+pub part_lt : (ds : List ℕ) (i : ℕ) → number (take i ds) < 16 ^ length ds
+part_lt ds i =
+    let long : length (take i ds) ≤ length ds = omega (arith, length-take i ds) in
+    let lt : 16 ^ length (take i ds) ≤ 16 ^ length ds = pow-le-pow_right (lit< tt) long in
+    omega (arith, number_lt (take i ds), lt)
+
+-- one digit more still fits 32 bits
+pub more_fits : (ds : List ℕ) (i : ℕ) → i < length ds → length ds ≤ 8 → number (take i ds) * 16 + value (get_or ds i 0) < 2 ^ 32
+more_fits ds i h short =
+    let lt : 16 ^ length ds ≤ 16 ^ 8 = pow-le-pow_right (lit< tt) short in
+    omega (arith, part_lt ds (i + 1), digit_more ds i h, lt)
 
 pub said_lt : (w from : ℕ) (ds : List ℕ) → from + w ≤ length ds → said w from ds < 16 ^ w
 said_lt w from ds h =

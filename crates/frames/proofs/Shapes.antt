@@ -139,14 +139,7 @@ framed_back (End a) h = ap (λ (x : ℕ). taken_as (End x)) (number_digits 8 a h
 
 -- digits of no kind are refused
 none_shaped : (k : ℕ) (ds : List ℕ) → ((kind : Kind) → number_of kind ≢ k) → shaped k ds ≡ None
-none_shaped k ds none =
-    let n0 = none kinds.Header in
-    let n1 = none kinds.OpenTask in
-    let n2 = none kinds.OpenFinish in
-    let n3 = none kinds.Close in
-    let n4 = none kinds.Access in
-    let n15 = none kinds.End in
-    grind (arith, nat_tests)
+none_shaped k ds none = grind (arith, nat_tests, none kinds.Header, none kinds.OpenTask, none kinds.OpenFinish, none kinds.Close, none kinds.Access, none kinds.End)
 
 pub unknown_framed : (ds : List ℕ) → ((kind : Kind) → number_of kind ≢ said 2 0 ds) → framed ds ≡ Err UnknownKind
 unknown_framed ds none = ap (sized ds) (none_shaped (said 2 0 ds) ds none)

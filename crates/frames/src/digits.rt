@@ -28,6 +28,7 @@ fn digit_value(byte: u8) -> u8
 }
 
 /// The number that digits say.
+#[tactic(auto, using(crate::proofs::Numbers::digit_more, crate::proofs::Numbers::part_lt, crate::proofs::Numbers::more_fits))]
 pub fn number(digits: &[u8]) -> u32
     requires { length digits.now ≤ 8 }
     ensures said { result ≡ number digits.now }
@@ -52,6 +53,7 @@ fn digit_char(value: u8) -> u8
     }
 }
 
+#[tactic(auto, using(crate::proofs::Buffers::digit_put, crate::proofs::Buffers::rest_fits))]
 /// Writes a number by as many digits as the field has room for.
 pub fn put_digits(field: &mut [u8], number: u32)
     requires { number < 16 ^ length field.old }

@@ -62,6 +62,7 @@ pub fn put_refusal(
     )
 }
 
+#[tactic(auto, using(crate::proofs::Fields::field_within, crate::proofs::Fields::fit_at))]
 // Writes a line of fields, each with the number of its digits.
 fn put_line(buffer: &mut [u8], fields: &[(usize, u32)]) -> Result<usize, ShortBuffer>
     requires fit { Fit fields.now }
