@@ -1,5 +1,5 @@
 -- Digits, fields and lines put into a buffer.
-use Rattle.std.proofs.Common.{◌≡◌, ℕ, suc, ◌+◌, ◌-◌, ◌/◌, ◌%◌, ◌^◌, ◌<◌, ◌≤◌, List, [], ◌∷◌, ◌++◌, length, get_or, take, drop, set, reverse, Ok, Err, sym, ap, ◌∙◌, subst, append_assoc, arith, take_all}
+use Rattle.std.proofs.Common.{◌≡◌, ℕ, suc, ◌+◌, ◌-◌, ◌/◌, ◌%◌, ◌^◌, ◌<◌, ◌≤◌, List, [], ◌∷◌, ◌++◌, length, get_or, take, drop, set, reverse, Ok, Err, sym, ap, ◌∙◌, subst, append_assoc, arith}
 use Rattle.std.proofs.lemmas.List.{drop_more, length_push, take_more_set, reverse-append}
 use Rattle.std.proofs.lemmas.Bool.{cond_above}
 use Rattle.std.proofs.Math.Seq.{set-append_seam}
@@ -34,14 +34,10 @@ line_ended ds old h =
     ∙ set-append_seam ds (get_or old (length ds) 0) (drop (length ds + 1) old) 10 ∙ sym (append_assoc ds (10 ∷ []) (drop (length ds + 1) old))
     ∙ ap (λ (n : ℕ). (ds ++ 10 ∷ []) ++ drop n old) (sym (length_push ds 10))
 
-pub line_done : (fs : List Field) (i : ℕ) (old : List ℕ) (at : ℕ) (buffer : List ℕ) → length fs ≤ i → length (line_of fs) ≤ line_room → line_room ≤ length old
-    → at ≡ length (body (take i fs)) → buffer ≡ over (body (take i fs)) old → LinePut (line_of fs) old (set buffer at 10) (Ok (at + 1))
-line_done fs i old at buffer h short room k e =
-    let all : take i fs ≡ fs = take_all i fs h in
-    let here : at ≡ length (body fs) = k ∙ ap (λ (gs : List Field). length (body gs)) all in
-    let lt : length (body fs) < length old = omega (arith, length_push (body fs) 10) in
-    let put : set buffer at 10 ≡ over (line_of fs) old = rw (e, all, here) (line_ended (body fs) old lt) in
+pub line_put : (fs : List Field) (old : List ℕ) → length (line_of fs) ≤ line_room → line_room ≤ length old
+    → LinePut (line_of fs) old (set (over (body fs) old) (length (body fs)) 10) (Ok (length (body fs) + 1))
+line_put fs old short room =
     record {
-      answer = cond_above (length old) line_room (Err (record {})) (Ok (length (line_of fs))) (Ok (at + 1)) room (ap Ok (omega (arith, length_push (body fs) 10)));
-      buffer = cond_above (length old) line_room old (over (line_of fs) old) (set buffer at 10) room put;
+      answer = cond_above (length old) line_room (Err (record {})) (Ok (length (line_of fs))) (Ok (length (body fs) + 1)) room (ap Ok (sym (length_push (body fs) 10)));
+      buffer = cond_above (length old) line_room old (over (line_of fs) old) _ room (line_ended (body fs) old (omega (arith, length_push (body fs) 10)));
     }

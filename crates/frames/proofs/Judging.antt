@@ -1,5 +1,5 @@
 -- Each answer comes exactly where it should.
-use Rattle.std.proofs.Common.{◌≡◌, ℕ, ◌+◌, ◌%◌, ◌<◌, ◌≤◌, Bool, cond, List, [], ◌∷◌, ◌++◌, length, take, Some, None, Ok, Err, Option, Result, sym, refl, ap, ◌∙◌, subst, append_assoc, arith, lit<, length-append}
+use Rattle.std.proofs.Common.{◌≡◌, ℕ, ◌+◌, ◌%◌, ◌<◌, ◌≤◌, Bool, cond, List, [], ◌∷◌, ◌++◌, length, take, Some, None, Ok, Err, Option, Result, sym, refl, ap, ◌∙◌, subst, append_assoc, arith, lit<}
 use Rattle.std.proofs.lemmas.List.{length_push}
 use Rattle.std.proofs.lemmas.Bool.{cond_both, both_ways}
 use Rattle.frames.specs.declared.words.Frame.{Frame}
@@ -8,7 +8,7 @@ use Rattle.frames.specs.declared.words.LineFault.{LineFault}
 use Rattle.frames.specs.declared.words.LineFault.TheVariants.{NoLine, UnknownKind, WrongLength}
 use Rattle.frames.specs.Layout.{fields, body}
 use Rattle.frames.specs.Lines.{Line, FrameRead, IsNoLine, OfNoKind, OfWrongLength, Judged}
-use Rattle.frames.specs.Reading.{run, whole, framed, told, read_at, reading, Within}
+use Rattle.frames.specs.Reading.{run, whole, framed, told, read_at, reading}
 use Rattle.frames.proofs.Fields.{all_fields}
 use Rattle.frames.proofs.Shapes.{Framed, framed_right, framed_back}
 use Rattle.frames.proofs.Runs.{line_run, line_digits, line_whole, whole_line}

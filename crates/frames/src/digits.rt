@@ -53,8 +53,8 @@ fn digit_char(value: u8) -> u8
     }
 }
 
-#[tactic(auto, using(crate::proofs::Buffers::digit_put, crate::proofs::Buffers::rest_fits))]
 /// Writes a number by as many digits as the field has room for.
+#[tactic(auto, using(crate::proofs::Buffers::digit_put, crate::proofs::Buffers::rest_fits))]
 pub fn put_digits(field: &mut [u8], number: u32)
     requires { number < 16 ^ length field.old }
     ensures { field.new ≡ digits (length field.old) number }

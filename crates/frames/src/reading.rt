@@ -7,7 +7,6 @@ use crate::digits::{is_digit, number};
 use crate::kind::Kind;
 use crate::words::{Frame, LineFault};
 
-#[tactic(auto, using(crate::proofs::Judging::judged))]
 /// Reads the line that the bytes begin with: its frame, and how many bytes it takes, its byte 10 counted.
 pub fn read_line(bytes: &[u8]) -> Result<(Frame, usize), LineFault>
     ensures answer { result ≡ reading bytes.now }

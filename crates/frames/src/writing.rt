@@ -62,8 +62,8 @@ pub fn put_refusal(
     )
 }
 
-#[tactic(auto, using(crate::proofs::Fields::field_within, crate::proofs::Fields::fit_at))]
 // Writes a line of fields, each with the number of its digits.
+#[tactic(auto, using(crate::proofs::Fields::field_within, crate::proofs::Fields::fit_at))]
 fn put_line(buffer: &mut [u8], fields: &[(usize, u32)]) -> Result<usize, ShortBuffer>
     requires fit { Fit fields.now }
     requires room { length (line_of fields.now) ≤ line_room }
