@@ -37,30 +37,20 @@ line_whole bytes ds w =
     let g : get_or bytes (length ds) 0 ≡ 10 = rw w.begins (get_or-append_seam ds 10 w.rest 0) in
     rw (line_run bytes ds w) (whole_is (length ds) bytes w.some w.even g)
 
-whole_some : (n : ℕ) (bytes : List ℕ) → whole n bytes ≡ true → 0 < n
-whole_some n bytes h = grind (arith, nat_tests)
-
-whole_even : (n : ℕ) (bytes : List ℕ) → whole n bytes ≡ true → n % 2 ≡ 0
-whole_even n bytes h = grind (arith, nat_tests)
-
-whole_ends : (n : ℕ) (bytes : List ℕ) → whole n bytes ≡ true → get_or bytes n 0 ≡ 10
-whole_ends n bytes h = grind (arith, nat_tests)
+whole_means : (n : ℕ) (bytes : List ℕ) → whole n bytes ≡ true → (0 < n) × (n % 2 ≡ 0) × (get_or bytes n 0 ≡ 10)
+whole_means n bytes h = (grind (arith, nat_tests), grind (arith, nat_tests), grind (arith, nat_tests))
 
 ends_within : (n : ℕ) (bytes : List ℕ) → get_or bytes n 0 ≡ 10 → n < length bytes
-ends_within n bytes e =
-    elim (cases_lt n (length bytes)) [ inl h ↦ h | inr h ↦ absurd (let z : get_or bytes n 0 ≡ 0 = get_or_past bytes n 0 h in let w : ⊥ = omega arith in w) ]
-
-pub whole_within : (n : ℕ) (bytes : List ℕ) → whole n bytes ≡ true → n < length bytes
-whole_within n bytes h = ends_within n bytes (whole_ends n bytes h)
+ends_within n bytes e = grind (arith, get_or_past)
 
 pub whole_line : (bytes : List ℕ) → whole (run bytes) bytes ≡ true → Line bytes (take (run bytes) bytes)
 whole_line bytes h =
-    let lt : run bytes < length bytes = whole_within (run bytes) bytes h in
-    let long : length (take (run bytes) bytes) ≡ run bytes = length-take-le (run bytes) bytes (omega arith) in
+    let means = whole_means (run bytes) bytes h in
+    let long : length (take (run bytes) bytes) ≡ run bytes = length-prefix_len is_digit bytes in
     record {
       rest = drop (suc (run bytes)) bytes;
-      begins = split_at bytes (run bytes) 0 lt ∙ ap (λ (x : ℕ). take (run bytes) bytes ++ x ∷ drop (suc (run bytes)) bytes) (whole_ends (run bytes) bytes h);
+      begins = split_at bytes (run bytes) 0 (ends_within (run bytes) bytes means.2) ∙ ap (λ (x : ℕ). take (run bytes) bytes ++ x ∷ drop (suc (run bytes)) bytes) means.2;
       all = run_digits bytes;
-      some = rw long (whole_some (run bytes) bytes h);
-      even = rw long (whole_even (run bytes) bytes h);
+      some = rw long means.0;
+      even = rw long means.1;
     }

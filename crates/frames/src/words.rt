@@ -1,8 +1,10 @@
 //! What a line says, and why one is refused.
-ghost use Rattle.std.specs.Prelude.{◌≡◌};
-ghost use Rattle.frames.specs.Codes.{fault_code, short_code};
+ghost use Rattle.std.specs.Prelude.{◌≡◌, Some};
+ghost use Rattle.frames.specs.Codes.{fault_code, fault_text, short_code, short_text};
 
 use refusals::{Code, Layer};
+use std::error::Error;
+use std::fmt;
 
 /// What a line says.
 #[derive(Clone, Copy, Debug, PartialEq, Eq)]
@@ -40,6 +42,20 @@ impl LineFault {
     }
 }
 
+impl fmt::Display for LineFault {
+    ghost output = { λ fault. Some (fault_text fault) };
+
+    fn fmt<W: fmt::Write>(&self, f: &mut fmt::Formatter<W>) -> fmt::Result {
+        f.write_str(match self {
+            LineFault::NoLine => "no line of digits",
+            LineFault::UnknownKind => "no kind of frame",
+            LineFault::WrongLength => "another number of digits than the kind has",
+        })
+    }
+}
+
+impl Error for LineFault {}
+
 /// The buffer for a line is too short.
 #[derive(Clone, Copy, Debug, PartialEq, Eq)]
 pub struct ShortBuffer;
@@ -54,3 +70,13 @@ impl ShortBuffer {
         }
     }
 }
+
+impl fmt::Display for ShortBuffer {
+    ghost output = { λ _. Some short_text };
+
+    fn fmt<W: fmt::Write>(&self, f: &mut fmt::Formatter<W>) -> fmt::Result {
+        f.write_str("a buffer too short for a line")
+    }
+}
+
+impl Error for ShortBuffer {}
