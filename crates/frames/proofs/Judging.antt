@@ -51,21 +51,13 @@ right bytes =
     (λ e. line_right bytes (whole_line bytes e)) (λ e ds w. both_ways (whole (run bytes) bytes) e (line_whole bytes ds w))
 
 -- What is written is read.
-some_body : (f : Frame) → 0 < length (body (fields f))
-some_body (Header a b) = lit< tt
-some_body OpenTask = lit< tt
-some_body OpenFinish = lit< tt
-some_body Close = lit< tt
-some_body (Access a b) = lit< tt
-some_body (End a) = lit< tt
-
-even_body : (f : Frame) → length (body (fields f)) % 2 ≡ 0
-even_body (Header a b) = refl
-even_body OpenTask = refl
-even_body OpenFinish = refl
-even_body Close = refl
-even_body (Access a b) = refl
-even_body (End a) = refl
+body_shape : (f : Frame) → (0 < length (body (fields f))) × (length (body (fields f)) % 2 ≡ 0)
+body_shape (Header a b) = (lit< tt, refl)
+body_shape OpenTask = (lit< tt, refl)
+body_shape OpenFinish = (lit< tt, refl)
+body_shape Close = (lit< tt, refl)
+body_shape (Access a b) = (lit< tt, refl)
+body_shape (End a) = (lit< tt, refl)
 
 frame_line : (bytes : List ℕ) (f : Frame) (taken : ℕ) → FrameRead bytes f taken → Line bytes (body (fields f))
 frame_line bytes f taken w =
@@ -73,8 +65,8 @@ frame_line bytes f taken w =
       rest = w.rest;
       begins = w.begins ∙ append_assoc (body (fields f)) (10 ∷ []) w.rest;
       all = all_fields (fields f) w.fit;
-      some = some_body f;
-      even = even_body f;
+      some = (body_shape f).0;
+      even = (body_shape f).1;
     }
 
 abbrev read_as : Frame → ℕ → Answer

@@ -40,31 +40,23 @@ fields_back from (w ∷ ws) ds a e =
 abbrev kind : Frame → ℕ
 kind f = number (take 2 (body (fields f)))
 
-kind_digits : (f : Frame) → digits 2 (kind f) ≡ take 2 (body (fields f))
-kind_digits (Header a b) = refl
-kind_digits OpenTask = refl
-kind_digits OpenFinish = refl
-kind_digits Close = refl
-kind_digits (Access a b) = refl
-kind_digits (End a) = refl
-
 -- the number of digits of a kind
 abbrev size_of : ℕ → ℕ
 size_of k = length (body (fields (elim (shaped k []) [ Some f ↦ f | None ↦ Close ])))
 
-size_right : (f : Frame) → length (body (fields f)) ≡ size_of (kind f)
-size_right (Header a b) = refl
-size_right OpenTask = refl
-size_right OpenFinish = refl
-size_right Close = refl
-size_right (Access a b) = refl
-size_right (End a) = refl
+kind_right : (f : Frame) → (digits 2 (kind f) ≡ take 2 (body (fields f))) × (length (body (fields f)) ≡ size_of (kind f))
+kind_right (Header a b) = (refl, refl)
+kind_right OpenTask = (refl, refl)
+kind_right OpenFinish = (refl, refl)
+kind_right Close = (refl, refl)
+kind_right (Access a b) = (refl, refl)
+kind_right (End a) = (refl, refl)
 
 kind_same : (ds : List ℕ) (f : Frame) → OfKind ds f → said 2 0 ds ≡ kind f
 kind_same ds f e = ap number e
 
 kind_back : (ds : List ℕ) (f : Frame) → AllPass is_digit ds → 2 ≤ length ds → said 2 0 ds ≡ kind f → OfKind ds f
-kind_back ds f a h e = sym (digits_said 2 0 ds a h) ∙ ap (digits 2) e ∙ kind_digits f
+kind_back ds f a h e = sym (digits_said 2 0 ds a h) ∙ ap (digits 2) e ∙ (kind_right f).0
 
 -- What is known of the frame that is taken for a kind.
 abbrev Shape : ℕ → List ℕ → Option Frame → Type 0
@@ -114,7 +106,7 @@ sized_right ds (Some g) a h s =
       g,
       kind_back ds g a h s.0,
       λ f same long.
-          eqb-false (length ds) (length (body (fields g))) n (long ∙ size_right f ∙ ap size_of (sym (kind_same ds f same) ∙ s.0) ∙ sym (size_right g)),
+          eqb-false (length ds) (length (body (fields g))) n (long ∙ (kind_right f).1 ∙ ap size_of (sym (kind_same ds f same) ∙ s.0) ∙ sym ((kind_right g).1)),
     ))
 sized_right ds None a h s = λ f same. s f (kind_same ds f same)
 
