@@ -22,6 +22,7 @@ digit_put width i field rest lt long h =
     (sym (append_assoc (digits left (rest / 16)) (d ∷ []) (reverse (take i field)))
     ∙ ap (λ (ds : List ℕ). ds ++ reverse (take i field)) (sym (digits_last left rest f)))
 
+-- what is left of a number fits the digits that are left
 pub rest_fits : (width i rest : ℕ) → i < width → rest < 16 ^ (width - i) → rest / 16 < 16 ^ (width - (i + 1))
 rest_fits width i rest lt h =
     let s : width - i ≡ suc (width - (i + 1)) = omega arith in
@@ -34,6 +35,7 @@ line_ended ds old h =
     ∙ set-append_seam ds (get_or old (length ds) 0) (drop (length ds + 1) old) 10 ∙ sym (append_assoc ds (10 ∷ []) (drop (length ds + 1) old))
     ∙ ap (λ (n : ℕ). (ds ++ 10 ∷ []) ++ drop n old) (sym (length_push ds 10))
 
+-- the fields of a line, and byte 10 behind them
 pub line_put : (fs : List Field) (old : List ℕ) → length (line_of fs) ≤ line_room → line_room ≤ length old
     → LinePut (line_of fs) old (set (over (body fs) old) (length (body fs)) 10) (Ok (length (body fs) + 1))
 line_put fs old short room =

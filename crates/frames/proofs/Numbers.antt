@@ -64,21 +64,21 @@ number_push (x ∷ xs) d =
     let long : length (xs ++ d ∷ []) ≡ suc (length xs) = omega (arith, length_push xs d) in
     rw (long, pow-suc 16 (length xs), number_push xs d) (omega (arith, mul_assoc (value x) (16 ^ length xs) 16, add-mul (value x * 16 ^ length xs) (number xs) 16))
 
--- one digit more
-pub digit_more : (ds : List ℕ) (i : ℕ) → i < length ds → number (take (i + 1) ds) ≡ number (take i ds) * 16 + value (get_or ds i 0)
-digit_more ds i h = ap number (take_more ds i 0 h) ∙ number_push (take i ds) (get_or ds i 0)
-
+-- what the first digits say
 pub part_lt : (ds : List ℕ) (i : ℕ) → number (take i ds) < 16 ^ length ds
 part_lt ds i =
     let long : length (take i ds) ≤ length ds = omega (arith, length-take i ds) in
     let lt : 16 ^ length (take i ds) ≤ 16 ^ length ds = pow-le-pow_right (lit< tt) long in
     omega (arith, number_lt (take i ds), lt)
 
--- one digit more still fits 32 bits
-pub more_fits : (ds : List ℕ) (i : ℕ) → i < length ds → length ds ≤ 8 → number (take i ds) * 16 + value (get_or ds i 0) < 2 ^ 32
-more_fits ds i h short =
+-- one digit more, which still fits 32 bits
+pub digit_more : (ds : List ℕ) (i : ℕ) → i < length ds → length ds ≤ 8
+    → (number (take i ds) * 16 + value (get_or ds i 0) < 2 ^ 32) × (number (take (i + 1) ds) ≡ number (take i ds) * 16 + value (get_or ds i 0))
+digit_more ds i h short =
+    let more : number (take (i + 1) ds) ≡ number (take i ds) * 16 + value (get_or ds i 0) =
+    ap number (take_more ds i 0 h) ∙ number_push (take i ds) (get_or ds i 0) in
     let lt : 16 ^ length ds ≤ 16 ^ 8 = pow-le-pow_right (lit< tt) short in
-    omega (arith, part_lt ds (i + 1), digit_more ds i h, lt)
+    (omega (arith, part_lt ds (i + 1), lt), more)
 
 pub said_lt : (w from : ℕ) (ds : List ℕ) → from + w ≤ length ds → said w from ds < 16 ^ w
 said_lt w from ds h =

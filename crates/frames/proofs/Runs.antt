@@ -36,6 +36,7 @@ line_whole bytes ds w =
     let g : get_or bytes (length ds) 0 ≡ 10 = rw w.begins (get_or-append_seam ds 10 w.rest 0) in
     rw (line_run bytes ds w) (whole_is (length ds) bytes w.some w.even g)
 
+-- what the test of a whole line tells
 whole_means : (n : ℕ) (bytes : List ℕ) → whole n bytes ≡ true → (0 < n) × (n % 2 ≡ 0) × (get_or bytes n 0 ≡ 10)
 whole_means n bytes h = (grind (arith, nat_tests), grind (arith, nat_tests), grind (arith, nat_tests))
 

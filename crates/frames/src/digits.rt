@@ -28,7 +28,7 @@ fn digit_value(byte: u8) -> u8
 }
 
 /// The number that digits say.
-#[tactic(auto, using(crate::proofs::Numbers::digit_more, crate::proofs::Numbers::part_lt, crate::proofs::Numbers::more_fits))]
+#[tactic(auto, using(crate::proofs::Numbers::digit_more, crate::proofs::Numbers::part_lt))]
 pub fn number(digits: &[u8]) -> u32
     requires { length digits.now ≤ 8 }
     ensures said { result ≡ number digits.now }
@@ -59,6 +59,7 @@ pub fn put_digits(field: &mut [u8], number: u32)
     requires { number < 16 ^ length field.old }
     ensures { field.new ≡ digits (length field.old) number }
 {
+    // The last digit first, and then all turned round: no proof knows what is written through `iter_mut().rev()`.
     let mut rest = number;
     for digit in field.iter_mut() {
         *digit = digit_char((rest % 16) as u8);

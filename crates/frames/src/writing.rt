@@ -72,6 +72,7 @@ fn put_line(buffer: &mut [u8], fields: &[(usize, u32)]) -> Result<usize, ShortBu
     if buffer.len() < LINE_ROOM {
         return Err(ShortBuffer);
     }
+    // Where the next field goes and, in the end, how many bytes are written: slices split off would not tell the second.
     let mut at = 0;
     for &(width, number) in fields {
         put_digits(&mut buffer[at..at + width], number);
