@@ -1,20 +1,18 @@
 -- The replies in turn.
-use Rattle.std.proofs.Common.{◌≡◌, ℕ, ◌+◌, ◌<◌, cond, List, [], ◌∷◌, ◌++◌, length, get_or, take, set, sym, ap, ◌∙◌, subst}
+use Rattle.std.proofs.Common.{◌≡◌, ℕ, ◌+◌, ◌<◌, cond, List, [], ◌∷◌, ◌++◌, length, is_err, take, set, ap, ◌∙◌, subst}
 use mathlib.Core.Path.{subst⁻¹}
-use Rattle.std.proofs.lemmas.List.{take_more_set, map-set, set-get_or}
+use Rattle.std.proofs.lemmas.List.{take_more_set}
 use Rattle.graph.specs.History.{History}
 use Rattle.orderings.specs.Meaning.{Meaning}
 use Rattle.rows.specs.declared.row.Row.{Row}
 use Rattle.trace_check.specs.declared.words.Call.{Call}
-use Rattle.trace_check.specs.declared.words.Reply.{Reply}
-use Rattle.conversation.specs.declared.words.Exchange.{Exchange}
+use Rattle.conversation.specs.Exchanges.{Answer, Exchange}
 use Rattle.orderings.specs.Inquiries.{noted}
-use Rattle.conversation.specs.Replies.{Setting, reply_to, is_refusal, event_of, after, after_all, events}
+use Rattle.conversation.specs.Replies.{Setting, reply_to, event_of, after, after_all, events}
 use Rattle.conversation.specs.Theorem.{RepliesRight}
-use Rattle.trace_check.specs.Calls.{View}
+use Rattle.trace_check.specs.View.{View}
 use Rattle.trace_check.specs.Puts.{Store, reply_of, left_by}
 use Rattle.conversation.specs.State.{State}
-use Rattle.conversation.specs.Conversation.{calls_of}
 use Rattle.conversation.proofs.Runs.{Good, good_after, after_append}
 use Rattle.conversation.proofs.Step.{step}
 
@@ -38,7 +36,7 @@ turn_good s h [] g t = g
 turn_good s h (x ∷ xs) g t = turn_good s (after x h) xs (good_after s h g x t.0) t.1
 
 -- one exchange more
-pub one_turn : (s : Setting) (xs : List Exchange) (i : ℕ) (call : Call) (reply : Reply) (σ τ : Store) → i < length xs → reply ≡ reply_of s.known s.clash σ call → τ ≡ left_by s.known s.clash σ call →
+pub one_turn : (s : Setting) (xs : List Exchange) (i : ℕ) (call : Call) (reply : Answer) (σ τ : Store) → i < length xs → reply ≡ reply_of s.known s.clash σ call → τ ≡ left_by s.known s.clash σ call →
     InTurn s [] (take i xs) × State s (events (take i xs)) σ →
     InTurn s [] (take (i + 1) (set xs i (record { call = call; reply = reply }))) × State s (events (take (i + 1) (set xs i (record { call = call; reply = reply })))) τ
 one_turn s xs i call reply σ τ l p q (t, S) =
@@ -47,11 +45,8 @@ one_turn s xs i call reply σ τ l p q (t, S) =
     let T = take_more_set xs i x l in
     let st = step s h σ S (turn_good s [] (take i xs) (tt, tt) t) call in
     let e : reply ≡ reply_to s h call = p ∙ st.0 in
-    let now-state : State s (after x h) τ = subst⁻¹ (State s (after x h)) q (subst⁻¹ (λ (r : Reply). State s (cond (is_refusal r) h (noted (event_of call) h)) (left_by s.known s.clash σ call)) e st.1) in
+    let now-state : State s (after x h) τ = subst⁻¹ (State s (after x h)) q (subst⁻¹ (λ (r : Answer). State s (cond (is_err r) h (noted (event_of call) h)) (left_by s.known s.clash σ call)) e st.1) in
     (subst⁻¹ (InTurn s []) T (turn_more s [] (take i xs) x t e), subst⁻¹ (λ (ys : List Exchange). State s (events ys) τ) T (subst⁻¹ (λ (k : History). State s k τ) (after_append (take i xs) (x ∷ []) []) now-state))
-
-pub same_calls : (xs : List Exchange) (i : ℕ) (d : Exchange) (reply : Reply) → calls_of (set xs i (record { call = (get_or xs i d).call; reply = reply })) ≡ calls_of xs
-same_calls xs i d reply = map-set (λ (x : Exchange). x.call) xs i (record { call = (get_or xs i d).call; reply = reply }) ∙ sym (map-set (λ (x : Exchange). x.call) xs i (get_or xs i d)) ∙ ap calls_of (set-get_or xs i d)
 
 pub store_eq : (σ τ : Store) → τ.check ≡ σ.check → τ.meaning ≡ σ.meaning → τ.rows ≡ σ.rows → τ ≡ σ
 store_eq σ τ a b c =
