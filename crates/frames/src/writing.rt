@@ -42,6 +42,7 @@ pub fn put_verdict(buffer: &mut [u8], accesses: u32, clashes: u32) -> Result<usi
 }
 
 /// Writes the line of a refusal, and tells how many bytes it takes. `line` is the line refused, counted from 1.
+// No `Code`: the line takes any number as its layer, and a `Layer` is one of four.
 pub fn put_refusal(
     buffer: &mut [u8],
     number: u8,
