@@ -13,7 +13,7 @@ pub fn digit(byte: u8) -> Option<u8>
     }
 }
 
-pub fn is_digit(byte: u8) -> bool
+pub(crate) fn is_digit(byte: u8) -> bool
     ensures { result ≡ is_digit byte }
 {
     digit(byte).is_some()
@@ -29,7 +29,7 @@ fn digit_value(byte: u8) -> u8
 
 /// The number that digits say.
 #[tactic(auto, using(crate::proofs::Numbers::digit_more, crate::proofs::Numbers::part_lt))]
-pub fn number(digits: &[u8]) -> u32
+pub(crate) fn number(digits: &[u8]) -> u32
     requires { length digits.now ≤ 8 }
     ensures said { result ≡ number digits.now }
     ensures fits { result < 16 ^ length digits.now }
@@ -55,7 +55,7 @@ fn digit_char(value: u8) -> u8
 
 /// Writes a number by as many digits as the field has room for.
 #[tactic(auto, using(crate::proofs::Buffers::digit_put, crate::proofs::Buffers::rest_fits))]
-pub fn put_digits(field: &mut [u8], number: u32)
+pub(crate) fn put_digits(field: &mut [u8], number: u32)
     requires { number < 16 ^ length field.old }
     ensures { field.new ≡ digits (length field.old) number }
 {
