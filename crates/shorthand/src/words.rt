@@ -54,15 +54,10 @@ pub enum Fault {
     Misread(Misread),
 }
 
-impl Misread {
-    /// What is wrong at the place `at`, counted from 0.
-    pub(crate) fn at(at: usize, reason: Reason) -> Misread
-        requires { at < 2 ^ 63 }
-        ensures { result ≡ wrong at reason }
-    {
-        Misread {
-            position: at + 1,
-            reason,
-        }
+impl From<Misread> for Fault {
+    ghost from_gives = { λ misread fault. fault ≡ Fault.Misread misread };
+
+    fn from(misread: Misread) -> Fault {
+        Fault::Misread(misread)
     }
 }
