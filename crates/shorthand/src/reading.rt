@@ -1,5 +1,6 @@
 //! Whole plans.
-ghost use Rattle.std.specs.Prelude.{◌≡◌, ◌≤◌, ◌+◌, take_while, length};
+ghost use Rattle.std.specs.Prelude.{◌≡◌, ◌≤◌, ◌+◌, length, take_while};
+ghost use Rattle.std.specs.List.{prefix_len};
 ghost use Rattle.shorthand.specs.Reader.{left, StandsAt};
 ghost use Rattle.shorthand.specs.Reading.{is_blank, heading, said, counted, put_over, read_answer, read_into};
 ghost use Rattle.shorthand.specs.Written.{ReadBack};
@@ -14,11 +15,19 @@ fn is_blank(c: u8) -> bool
     matches!(c, b' ' | b'\t' | b'\r' | b'\n')
 }
 
+/// How many blanks a text begins with.
+fn blanks(text: &[u8]) -> usize
+    ensures { result ≡ length (take_while is_blank text.now) }
+{
+    text.iter().take_while(|c| is_blank(**c)).count()
+}
+
 impl Reader<'_> {
+    /// Reads over any blanks.
     fn skip_blanks(&mut self)
-        ensures { StandsAt self.old self.new (self.old.at + length (take_while is_blank (left self.old))) }
+        ensures { StandsAt self.old self.new (self.old.at + prefix_len is_blank (left self.old)) }
     {
-        self.at += self.text[self.at..].iter().take_while(|c| is_blank(**c)).count();
+        self.at += blanks(&self.text[self.at..]);
     }
 
     /// Reads the name of a rule, behind any blanks; the plain rule where none is named.

@@ -1,6 +1,6 @@
 //! What a plan in shorthand says, and why a text says none.
-ghost use Rattle.std.specs.Prelude.{◌≡◌, ◌^◌, ◌<◌};
-ghost use Rattle.shorthand.specs.Words.{wrong};
+ghost use Rattle.std.specs.Prelude.{◌≡◌};
+ghost use Rattle.shorthand.specs.declared.words.Fault.TheVariants.{Misread as Wrong};
 
 use rules::Rule;
 
@@ -55,7 +55,7 @@ pub enum Fault {
 }
 
 impl From<Misread> for Fault {
-    ghost from_gives = { λ misread fault. fault ≡ Fault.Misread misread };
+    ghost from_gives = { λ misread fault. fault ≡ Wrong misread };
 
     fn from(misread: Misread) -> Fault {
         Fault::Misread(misread)
