@@ -1,5 +1,5 @@
 -- Reading a number digit by digit.
-use Rattle.std.proofs.Common.{◌≡◌, ℕ, ◌+◌, ◌-◌, ◌*◌, ◌^◌, ◌<◌, ◌≤◌, Bool, true, false, cond, List, [], ◌∷◌, length, get_or, drop, Some, None, Ok, Err, Option, arith}
+use Rattle.std.proofs.Common.{◌≡◌, ℕ, ◌+◌, ◌-◌, ◌*◌, ◌^◌, ◌<◌, ◌≤◌, Bool, true, false, cond, List, [], ◌∷◌, length, get_or, drop, Some, None, Ok, Err, arith}
 use Rattle.std.specs.Char.{is_ascii_digit}
 use Rattle.std.proofs.lemmas.List.{drop_more, drop_all}
 use Rattle.std.proofs.lemmas.Bool.Decides.{nat_tests}
@@ -10,7 +10,6 @@ use Rattle.shorthand.specs.Numbers.{digits_on, fitting}
 
 -- at the place p of a text
 module _ (l : List ℕ) (n p : ℕ) where
-
   pub digits_more : (d : ℕ) → p < length l → Some d ≡ cond (is_ascii_digit (get_or l p 0)) (Some (get_or l p 0 - 48)) None → digits_on n p (drop p l) ≡ digits_on (10 * n + d) (p + 1) (drop (p + 1) l)
   digits_more d h e = let q = drop_more l p 0 h in grind (arith, nat_tests)
 

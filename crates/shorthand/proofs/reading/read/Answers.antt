@@ -1,9 +1,8 @@
-use Rattle.std.proofs.Common.{◌≡◌, ℕ, ◌≤◌, length, Ok, Err, Result, ap, ◌∙◌, arith}
+use Rattle.std.proofs.Common.{ℕ, Err, ap, ◌∙◌, arith}
 use Rattle.std.proofs.lemmas.Grind.{common_steps}
 use Rattle.std.proofs.lemmas.Bool.Decides.{nat_tests}
 use Rattle.std.proofs.lemmas.Result.{err_from_is_err_and}
 use Rattle.rules.specs.declared.Rule.{Rule}
-use Rattle.shorthand.specs.Reading.{heading, counted, told, put_over}
 use Rattle.shorthand.proofs.Places.{told_answer, told_places}
 use Rattle.shorthand.proofs.Back.{read_back}
 use Rattle.shorthand.proofs.reading.read.Goals as goal

@@ -1,7 +1,4 @@
-use Rattle.std.proofs.Common.{rules, ◌≡◌, ◌-◌, if◌then◌else◌, ℕ, ◌+◌, ◌*◌, ◌<◌, ◌≤◌, length, ◌/◌, ◌%◌, Bool, true, false, nat_eq, nat_lt, List, [], ◌∷◌, ◌++◌, slice_index_or, slice_set, bit_and, bit_or, Fits, w8, w32, w64, Bor, MutBor, arith}
-use Rattle.std.specs.Char.{is_ascii_digit}
-use Rattle.shorthand.specs.Numbers.{number_at}
-use Rattle.shorthand.specs.Reader.{left, placed, Behind}
+use Rattle.std.proofs.Common.{arith}
 use Rattle.std.proofs.lemmas.Grind.{common_steps}
 use Rattle.shorthand.proofs.Digits.{digits_more, digits_stop, digits_rise, fitting_read, none_read, large_read}
 use Rattle.shorthand.proofs.reader.Reader.number.Goals as goal
