@@ -1,11 +1,18 @@
 -- Where a reader stands in its text.
-use Rattle.std.specs.Prelude.{◌≡◌, ℕ, ◌<◌, List, drop, Ok, Err, Result}
+use Rattle.std.specs.Prelude.{◌≡◌, ℕ, ◌+◌, ◌<◌, slice_index, List, drop, Ok, Err, Result}
 use Rattle.shorthand.specs.declared.reader.Reader.{Reader}
 use Rattle.shorthand.specs.declared.words.Misread.{Misread}
 
 -- the text that is left
 abbrev pub left : Reader → List ℕ
 left r = drop r.at r.text.now
+
+-- the character at the place, 0 behind the last, and the text behind it
+abbrev pub first : Reader → ℕ
+first r = slice_index r.text.now r.at
+
+abbrev pub rest : Reader → List ℕ
+rest r = drop (r.at + 1) r.text.now
 
 -- the reader has the same text, and stands at the place `at` of it
 pub record StandsAt (old new : Reader) (at : ℕ) : Type 0 where

@@ -2,8 +2,8 @@
 ghost use Rattle.std.specs.Prelude.{◌≡◌, ◌<◌, ◌+◌, length, drop, slice_index};
 ghost use Rattle.shorthand.specs.declared.words.Action.TheVariants.{Access};
 ghost use Rattle.shorthand.specs.Numbers.{number_at};
-ghost use Rattle.shorthand.specs.Actions.{hex, acting, is_class, class_at, action_at, Digit};
-ghost use Rattle.shorthand.specs.Reader.{left, placed, Behind};
+ghost use Rattle.shorthand.specs.Actions.{hex, acting, is_class, class_at, action_at};
+ghost use Rattle.shorthand.specs.Reader.{left, first, rest, placed, Behind};
 
 use crate::reader::Reader;
 use crate::words::{Action, Misread, Reason};
@@ -11,8 +11,7 @@ use rules::{ADD, READ, WRITE};
 
 /// The value of a hexadecimal digit.
 fn hex_value(c: u8) -> Option<u32>
-    ensures value { result ≡ hex c }
-    ensures digit { Digit c result }
+    ensures { result ≡ hex c }
 {
     match c {
         b'0'..=b'9' => Some((c - b'0') as u32),
@@ -40,8 +39,7 @@ impl Reader<'_> {
 
     /// Reads an access by its class.
     fn class_access(&mut self) -> Result<Action, Misread>
-        requires { self.old.at < length self.old.text.now }
-        ensures answer { placed result self.new.at ≡ class_at self.old.at (slice_index self.old.text.now self.old.at) (drop (self.old.at + 1) self.old.text.now) }
+        ensures answer { placed result self.new.at ≡ class_at self.old.at (first self.old) (rest self.old) }
         ensures behind { Behind self.old self.new result }
     {
         let Some(high) = self.next_as(hex_value) else {
@@ -59,7 +57,7 @@ impl Reader<'_> {
     /// Reads an action.
     pub(crate) fn action(&mut self) -> Result<Action, Misread>
         requires { self.old.at < length self.old.text.now }
-        ensures answer { placed result self.new.at ≡ action_at self.old.at (slice_index self.old.text.now self.old.at) (drop (self.old.at + 1) self.old.text.now) }
+        ensures answer { placed result self.new.at ≡ action_at self.old.at (first self.old) (rest self.old) }
         ensures behind { Behind self.old self.new result }
     {
         let start = *self;

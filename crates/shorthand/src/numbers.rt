@@ -11,11 +11,7 @@ use crate::words::{Misread, Reason};
 fn decimal_value(c: u8) -> Option<u32>
     ensures { result ≡ (if is_ascii_digit c then Some (c - 48) else None) }
 {
-    if c.is_ascii_digit() {
-        Some((c - b'0') as u32)
-    } else {
-        None
-    }
+    (c as char).to_digit(10)
 }
 
 impl Reader<'_> {

@@ -23,6 +23,13 @@ impl<'t> Reader<'t> {
         Reader { text, at: 0 }
     }
 
+    /// The text that is left.
+    pub(crate) fn left(&self) -> &'t [u8]
+        ensures { result.now ≡ left self.now }
+    {
+        &self.text[self.at..]
+    }
+
     /// What is wrong at the place.
     pub(crate) fn misread(&self, reason: Reason) -> Misread
         ensures { result ≡ wrong self.now.at reason }
@@ -50,7 +57,7 @@ impl<'t> Reader<'t> {
         ensures same { result ≡ starts_with nat_eq (left self.old) word.now }
         ensures moved { StandsAt self.old self.new (self.old.at + (if result then length word.now else 0)) }
     {
-        if !self.text[self.at..].starts_with(word) {
+        if !self.left().starts_with(word) {
             return false;
         }
         self.at += word.len();

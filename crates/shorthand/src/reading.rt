@@ -27,7 +27,7 @@ impl Reader<'_> {
     fn skip_blanks(&mut self)
         ensures { StandsAt self.old self.new (self.old.at + prefix_len is_blank (left self.old)) }
     {
-        self.at += blanks(&self.text[self.at..]);
+        self.at += blanks(self.left());
     }
 
     /// Reads the name of a rule, behind any blanks; the plain rule where none is named.
