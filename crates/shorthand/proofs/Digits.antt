@@ -35,3 +35,6 @@ module _ (at : ℕ) (p : ℕ × ℕ) where
 
   pub large_read : at < p.1 → 2 ^ 32 ≤ p.0 → fitting at p ≡ Err (wrong at TooLarge)
   large_read h k = grind (arith, nat_tests)
+
+-- what `number` is proved by
+pub ruleset steps = (common_steps, digits_more, digits_stop, digits_rise, fitting_read, none_read, large_read)

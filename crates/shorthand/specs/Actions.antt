@@ -17,11 +17,6 @@ c has s = c == slice_index (codes s) 0
 abbrev pub hex : ℕ → Option ℕ
 hex c = cond (nat_le 48 c && nat_le c 57) (Some (c - 48)) (cond (nat_le 65 c && nat_le c 70) (Some (c - 55)) None)
 
--- a digit has a value below 16, and is not the character 0
-abbrev pub Digit : ℕ → Option ℕ → Type 0
-Digit c (Some v) = (v < 16) × (0 < c)
-Digit c None = Unit {0}
-
 -- the action that a number belongs to
 abbrev pub acting : (ℕ → Action) → Result (ℕ × ℕ) Misread → Result (Action × ℕ) Misread
 acting action (Ok p) = Ok (action p.0, p.1)

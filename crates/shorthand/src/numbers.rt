@@ -16,6 +16,7 @@ fn decimal_value(c: u8) -> Option<u32>
 
 impl Reader<'_> {
     /// Reads a number.
+    #[tactic(auto, using(crate::proofs::Digits::steps))]
     pub(crate) fn number(&mut self) -> Result<u32, Misread>
         ensures answer { placed result self.new.at ≡ number_at self.old.at (left self.old) }
         ensures behind { Behind self.old self.new result }

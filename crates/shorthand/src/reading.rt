@@ -2,7 +2,7 @@
 ghost use Rattle.std.specs.Prelude.{◌≡◌, ◌≤◌, ◌+◌, length, take_while};
 ghost use Rattle.std.specs.List.{prefix_len};
 ghost use Rattle.shorthand.specs.Reader.{left, StandsAt};
-ghost use Rattle.shorthand.specs.Reading.{is_blank, heading, said, counted, put_over, read_answer, read_into};
+ghost use Rattle.shorthand.specs.Reading.{is_blank, named, heading, said, counted, put_over, read_answer, read_into};
 ghost use Rattle.shorthand.specs.Written.{ReadBack};
 
 use crate::reader::Reader;
@@ -30,12 +30,11 @@ impl Reader<'_> {
         self.at += blanks(self.left());
     }
 
-    /// Reads the name of a rule, behind any blanks; the plain rule where none is named.
-    fn rule(&mut self) -> Rule
-        ensures rule { (result, self.new.at) ≡ heading self.old.at (left self.old) }
+    /// Reads the name of a rule; the plain rule where none is named.
+    fn named(&mut self) -> Rule
+        ensures rule { (result, self.new.at) ≡ named self.old.at (left self.old) }
         ensures text { self.new.text.now ≡ self.old.text.now }
     {
-        self.skip_blanks();
         if self.skip(b"depot") {
             Rule::Depot(Depot {})
         } else if self.skip(b"field") {
@@ -46,6 +45,16 @@ impl Reader<'_> {
         }
     }
 
+    /// The same, behind any blanks.
+    #[tactic(auto, using(crate::proofs::Readers::heading_behind))]
+    fn rule(&mut self) -> Rule
+        ensures rule { (result, self.new.at) ≡ heading self.old.at (left self.old) }
+        ensures text { self.new.text.now ≡ self.old.text.now }
+    {
+        self.skip_blanks();
+        self.named()
+    }
+
     /// Reads the actions up to the end, puts them into the places lent, and counts them.
     fn actions(&mut self, places: &mut [Action]) -> Result<usize, Misread>
         requires { length self.old.text.now ≤ length places.old }
@@ -54,7 +63,7 @@ impl Reader<'_> {
     {
         for (count, place) in places.iter_mut().enumerate() {
             self.skip_blanks();
-            if self.at == self.text.len() {
+            if self.left().is_empty() {
                 return Ok(count);
             }
             *place = self.action()?;

@@ -1,26 +1,31 @@
-use Rattle.std.proofs.Common.{◌≡◌, ◌+◌, ◌<◌, length, get_or, drop, Ok, Err, arith}
+use Rattle.std.proofs.Common.{◌≡◌, ◌+◌, ◌<◌, ◌≤◌, [], ◌∷◌, length, get_or, take, drop, Some, None, Ok, Err, sym, ap, ◌∙◌, arith, rules}
 use Rattle.std.proofs.lemmas.Grind.{common_steps}
 use Rattle.std.proofs.lemmas.Result.{err_from_is_err_and}
-use Rattle.shorthand.specs.Actions.{action_at}
-use Rattle.shorthand.proofs.Blanks.{said_end, said_action, said_wrong}
+use Rattle.shorthand.specs.Reader.{left}
+use Rattle.shorthand.specs.Reading.{said}
+use Rattle.shorthand.proofs.Said.{ahead}
+use Rattle.shorthand.proofs.Readers.{said_behind, said_end, not_blank, said_action, said_wrong}
 use Rattle.shorthand.proofs.Places.{put_ahead, put_behind, ended_answer, ended_places}
 use Rattle.shorthand.proofs.reader.Reader.actions.Goals as goal
 
-pub returns-then-self-clause-answer : goal.returns-then-self-clause-answer
-returns-then-self-clause-answer c = grind (arith, common_steps, said_end, ended_answer)
-
-pub returns-then-self-clause-places : goal.returns-then-self-clause-places
-returns-then-self-clause-places c = grind (arith, common_steps, said_end, ended_places)
+pub returns-then-is_empty : goal.returns-then-is_empty
+returns-then-is_empty c =
+    let r = c.loop-count.self in
+    let b = c.skip_blanks.new.self in
+    let h : length (left b) ≡ 0 = grind arith in
+    let s = said_behind r b c.skip_blanks.ensures ∙ said_end b h in
+    record {
+      answer = grind (arith, common_steps, ended_answer);
+      places = grind (arith, common_steps, ended_places);
+    }
 
 pub returns-in_err-place : goal.returns-in_err-place
 returns-in_err-place c =
     let r = c.loop-count.self in
     let b = c.skip_blanks.new.self in
     let m = c.in_err-place.field-0.0 in
-    let a = c.in_err-place.ensures.answer in
-    let h : b.at < length r.text.now = grind arith in
-    let p : action_at b.at (get_or r.text.now b.at 0) (drop (b.at + 1) r.text.now) ≡ Err m = cc in
-    let s = said_wrong r.text.now r.at b.at c.skip_blanks.ensures.place h m p in
+    let h : b.at < length b.text.now = grind (arith, common_steps) in
+    let s = said_behind r b c.skip_blanks.ensures ∙ said_wrong b h (not_blank r b c.skip_blanks.ensures h) m c.in_err-place.ensures.answer in
     let out = err_from_is_err_and c.from_residual.result c.from_residual.ensures.1 in
     record {
       answer = grind (arith, common_steps, ended_answer);
@@ -31,11 +36,9 @@ pub loop-count-preserved : goal.loop-count-preserved
 loop-count-preserved c =
     let r = c.loop-count.self in
     let b = c.skip_blanks.new.self in
-    let r' = c.action.new.self in
-    let a = c.in_ok-place.ensures in
-    let h : b.at < length r.text.now = grind arith in
-    let p : action_at b.at (get_or r.text.now b.at 0) (drop (b.at + 1) r.text.now) ≡ Ok (c.in_ok-place.field-0, r'.at) = cc in
-    let s = said_action r.text.now r.at b.at c.skip_blanks.ensures.place h c.in_ok-place.field-0 r'.at p a.behind.1 in
+    let read = c.in_ok-place.ensures in
+    let h : b.at < length b.text.now = grind (arith, common_steps) in
+    let s = said_behind r b c.skip_blanks.ensures ∙ said_action b h (not_blank r b c.skip_blanks.ensures h) c.action.new.self c.in_ok-place.field-0 read.answer read.behind.0 read.behind.1 in
     record {
       text = cc;
       within = omega arith;
