@@ -1,9 +1,7 @@
-use Rattle.std.proofs.Common.{◌≡◌, ◌+◌, ◌<◌, ◌≤◌, [], ◌∷◌, length, get_or, take, drop, Some, None, Ok, Err, sym, ap, ◌∙◌, arith, rules}
+use Rattle.std.proofs.Common.{◌≡◌, ◌<◌, length, ◌∙◌, arith}
 use Rattle.std.proofs.lemmas.Grind.{common_steps}
 use Rattle.std.proofs.lemmas.Result.{err_from_is_err_and}
 use Rattle.shorthand.specs.Reader.{left}
-use Rattle.shorthand.specs.Reading.{said}
-use Rattle.shorthand.proofs.Said.{ahead}
 use Rattle.shorthand.proofs.Readers.{said_behind, said_end, not_blank, said_action, said_wrong}
 use Rattle.shorthand.proofs.Places.{put_ahead, put_behind, ended_answer, ended_places}
 use Rattle.shorthand.proofs.reader.Reader.actions.Goals as goal
