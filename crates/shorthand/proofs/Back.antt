@@ -1,5 +1,6 @@
 -- A plan that was written is read back.
-use Rattle.std.proofs.Common.{◌≡◌, ℕ, zero, suc, ◌+◌, ◌-◌, ◌*◌, ◌/◌, ◌%◌, ◌^◌, ◌<◌, Bool, true, false, ◌&&◌, eqb, ltb, List, [], ◌∷◌, ◌++◌, length, drop, Some, None, Ok, codes, decimal, Result, refl, ap, ◌∙◌, add-zero, arith, lit<}
+use Rattle.std.proofs.Common.{◌≡◌, ℕ, zero, suc, ◌+◌, ◌-◌, ◌*◌, ◌/◌, ◌%◌, ◌^◌, ◌<◌, true, false, eqb, ltb, List, [], ◌∷◌, ◌++◌, length, drop, Some, None, Ok, codes, decimal, Result, refl, ap, ◌∙◌, add-zero, arith}
+use Rattle.std.proofs.Math.Bool.{and-false}
 use Rattle.std.specs.Str.Parse.{AllDigits, digits_value_after}
 use Rattle.std.specs.Char.{is_ascii_digit, digit_value}
 use Rattle.std.proofs.lemmas.Fmt.{decimal_is_IsNumeral}
@@ -66,26 +67,16 @@ module _ (at n : ℕ) (rest : List ℕ) (h : n < 2 ^ 32) (c : ℕ) (a : ℕ → 
         behind = drop_at (decimal n) (32 ∷ rest) (length (decimal n)) refl;
       }
 
--- no action's letter is a digit of a class
-other : (v k : ℕ) → v < 16 → 70 < k → eqb (digit v) k ≡ false
-other v k h j = grind (arith, nat_tests)
-
-other_sign : (v k : ℕ) → v < 16 → k < 48 → eqb (digit v) k ≡ false
-other_sign v k h j = grind (arith, nat_tests)
-
-mark : (v : ℕ) → v < 16 → eqb (digit v) 63 ≡ false
-mark v h = grind (arith, nat_tests)
+-- no other action begins with a digit of a class
+other : (v c : ℕ) → v < 16 → hex c ≡ None → eqb (digit v) c ≡ false
+other v c h e = grind (arith, nat_tests)
 
 hex_digit : (v : ℕ) → v < 16 → hex (digit v) ≡ Some v
 hex_digit v h = grind (arith, nat_tests)
 
-never : (b : Bool) → b && false ≡ false
-never true = refl
-never false = refl
-
 digit_first : (at v w : ℕ) (l : List ℕ) → v < 16 → w < 16 → action_at at (digit v) (digit w ∷ 64 ∷ l) ≡ acting (Access (16 * v + w)) (number_at (at + 3) l)
 digit_first at v w l h k =
-    rw (other v 84 h (lit< tt), hex_digit w k, never (eqb (digit v) 70), other_sign v 41 h (lit< tt), other v 114 h (lit< tt), other v 119 h (lit< tt), other v 97 h (lit< tt), mark v h, hex_digit v h)
+    rw (other v 84 h refl, hex_digit w k, and-false, other v 41 h refl, other v 114 h refl, other v 119 h refl, other v 97 h refl, other v 63 h refl, hex_digit v h)
 
 -- two digits, an @ and a number
 classed : (at c n : ℕ) (rest : List ℕ) → c < 256 → n < 2 ^ 32 → Stands at (Access c n) (digit (c / 16) ∷ digit (c % 16) ∷ 64 ∷ decimal n ++ 32 ∷ rest) (32 ∷ rest)

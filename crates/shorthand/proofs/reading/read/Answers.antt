@@ -1,10 +1,9 @@
-use Rattle.std.proofs.Common.{◌≡◌, ℕ, length, Err, ap, sym, ◌∙◌, arith}
+use Rattle.std.proofs.Common.{◌≡◌, length, Err, ap, sym, ◌∙◌, arith}
 use Rattle.std.proofs.lemmas.Grind.{common_steps}
 use Rattle.std.proofs.lemmas.Bool.Decides.{nat_tests}
 use Rattle.std.proofs.lemmas.Result.{err_from_is_err_and}
-use Rattle.rules.specs.declared.Rule.{Rule}
 use Rattle.shorthand.specs.Reading.{told, read_answer, read_into}
-use Rattle.shorthand.proofs.Places.{told_answer, told_places}
+use Rattle.shorthand.proofs.Plans.{all_read}
 use Rattle.shorthand.proofs.Back.{read_back}
 use Rattle.shorthand.proofs.reading.read.Goals as goal
 use Rattle.shorthand.proofs.reading.read.Goals.{After-actions}
@@ -12,27 +11,22 @@ use Rattle.shorthand.proofs.reading.read.Goals.{After-actions}
 pub returns-then-actions-text : goal.returns-then-actions-text
 returns-then-actions-text c = grind (arith, nat_tests, common_steps, read_back)
 
--- the name of the rule is read, and the actions
-all_read : (c : After-actions) → (told c.rule-rule.result c.actions.result ≡ read_answer (length c.args.actions.now) c.args.text.now) × (c.actions.new.places ≡ read_into c.args.actions.now c.args.text.now)
-all_read c =
-    let l = c.args.text.now in
-    let p : Rule × ℕ = (c.rule-rule.result, c.rule-rule.new.self.at) in
+-- the name of the rule is read, and from there on the actions
+all : (c : After-actions) → (told c.rule-rule.result c.actions.result ≡ read_answer (length c.args.actions.now) c.args.text.now) × (c.actions.new.places ≡ read_into c.args.actions.now c.args.text.now)
+all c =
     let named = rw (c.new-reader.ensures.front, c.new-reader.ensures.text) at c.rule-rule.ensures.rule in
     let read = rw (c.rule-rule.ensures.text, c.new-reader.ensures.text) at c.actions.ensures in
-    let room = c.if-actions-text.false in (
-      told_answer l c.args.actions.now c.actions.new.places room p named c.actions.result read.answer read.places,
-      told_places l c.args.actions.now c.actions.new.places room p named c.actions.result read.answer read.places,
-    )
+    all_read _ _ _ (c.rule-rule.result, c.rule-rule.new.self.at) _ c.if-actions-text.false named read.answer read.places
 
 pub returns-in_err-count : goal.returns-in_err-count
 returns-in_err-count c =
-    let all = all_read (goal.at.returns-in_err-count c).After-actions in
+    let both = all (goal.at.returns-in_err-count c).After-actions in
     let out = err_from_is_err_and c.from_residual.result c.from_residual.ensures.1 in
-    let answer = out.1 ∙ ap Err out.2 ∙ ap (told c.rule-rule.result) (sym c.in_err-count.was) ∙ all.0 in
-    record { answer = answer; places = all.1; back = read_back _ _ _ _ answer all.1 }
+    let answer = out.1 ∙ ap Err out.2 ∙ ap (told c.rule-rule.result) (sym c.in_err-count.was) ∙ both.0 in
+    record { answer = answer; places = both.1; back = read_back _ _ _ _ answer both.1 }
 
 pub returns : goal.returns
 returns c =
-    let all = all_read (goal.at.returns c).After-actions in
-    let answer = ap (told c.rule-rule.result) (sym c.in_ok-count.was) ∙ all.0 in
-    record { answer = answer; places = all.1; back = read_back _ _ _ _ answer all.1 }
+    let both = all (goal.at.returns c).After-actions in
+    let answer = ap (told c.rule-rule.result) (sym c.in_ok-count.was) ∙ both.0 in
+    record { answer = answer; places = both.1; back = read_back _ _ _ _ answer both.1 }

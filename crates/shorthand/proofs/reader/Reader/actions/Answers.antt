@@ -1,9 +1,9 @@
-use Rattle.std.proofs.Common.{◌≡◌, ◌<◌, length, ◌∙◌, arith}
+use Rattle.std.proofs.Common.{◌≡◌, ◌<◌, length, ◌∙◌, append_assoc, arith}
+use Rattle.std.proofs.lemmas.List.{append-nil, length-take-le, take-append-drop}
 use Rattle.std.proofs.lemmas.Grind.{common_steps}
 use Rattle.std.proofs.lemmas.Result.{err_from_is_err_and}
 use Rattle.shorthand.specs.Reader.{left}
 use Rattle.shorthand.proofs.Readers.{said_behind, said_end, not_blank, said_action, said_wrong}
-use Rattle.shorthand.proofs.Places.{put_ahead, put_behind, ended_answer, ended_places}
 use Rattle.shorthand.proofs.reader.Reader.actions.Goals as goal
 
 pub returns-then-is_empty : goal.returns-then-is_empty
@@ -13,8 +13,8 @@ returns-then-is_empty c =
     let h : length (left b) ≡ 0 = grind arith in
     let s = said_behind r b c.skip_blanks.ensures ∙ said_end b h in
     record {
-      answer = grind (arith, common_steps, ended_answer);
-      places = grind (arith, common_steps, ended_places);
+      answer = grind (arith, common_steps, append-nil, length-take-le);
+      places = grind (arith, common_steps, append-nil, length-take-le, take-append-drop);
     }
 
 pub returns-in_err-place : goal.returns-in_err-place
@@ -26,8 +26,8 @@ returns-in_err-place c =
     let s = said_behind r b c.skip_blanks.ensures ∙ said_wrong b h (not_blank r b c.skip_blanks.ensures h) m c.in_err-place.ensures.answer in
     let out = err_from_is_err_and c.from_residual.result c.from_residual.ensures.1 in
     record {
-      answer = grind (arith, common_steps, ended_answer);
-      places = grind (arith, common_steps, ended_places);
+      answer = grind (arith, common_steps, append-nil, length-take-le);
+      places = grind (arith, common_steps, append-nil, length-take-le, take-append-drop);
     }
 
 pub loop-count-preserved : goal.loop-count-preserved
@@ -40,6 +40,6 @@ loop-count-preserved c =
     record {
       text = cc;
       within = omega arith;
-      said = grind (arith, common_steps, put_ahead);
-      behind = grind (arith, common_steps, put_behind);
+      said = grind (arith, common_steps, append_assoc);
+      behind = grind (arith, common_steps);
     }
