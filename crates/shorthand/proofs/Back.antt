@@ -5,6 +5,7 @@ use Rattle.std.specs.Str.Parse.{AllDigits, digits_value_after}
 use Rattle.std.specs.Char.{is_ascii_digit, digit_value}
 use Rattle.std.proofs.lemmas.Fmt.{decimal_is_IsNumeral}
 use Rattle.std.proofs.lemmas.List.{drop_at}
+use Rattle.std.proofs.lemmas.Bool.{le-ltb}
 use Rattle.std.proofs.lemmas.Bool.Decides.{nat_tests}
 use Rattle.rules.specs.declared.Rule.{Rule}
 use Rattle.rules.specs.declared.Rule.TheVariants.{Plain, Depot, Field}
@@ -16,7 +17,6 @@ use Rattle.shorthand.specs.Numbers.{digits_on, fitting, number_at}
 use Rattle.shorthand.specs.Actions.{hex, acting, action_at}
 use Rattle.shorthand.specs.Reading.{is_blank, heading, Reading, reading, said, counted, told, put_over, read_answer, read_into}
 use Rattle.shorthand.specs.Written.{digit, class_text, action_text, actions_text, written, Fits, AllFit, FromPlan, ReadBack}
-use Rattle.shorthand.proofs.Digits.{fitting_read}
 use Rattle.shorthand.proofs.Said.{ahead, said_on, step_blank, step_action}
 
 digit_reads : (d : ℕ) → digit_value d < 10 → is_ascii_digit d ≡ true
@@ -40,7 +40,7 @@ number_read at n rest h =
     let p : digits_on 0 at (decimal n ++ 32 ∷ rest) ≡ (n, at + length (decimal n)) =
     digits_read 0 at (decimal n) 32 rest d.0.1 refl ∙ ap (λ (v : ℕ). (v, at + length (decimal n))) d.1 in
     let some : 0 < length (decimal n) = d.0.0 in
-    ap (fitting at) p ∙ fitting_read at (n, at + length (decimal n)) (omega arith) h
+    rw p (grind (arith, nat_tests))
 
 -- An action a stands at the front of a text, its first character at the place `at`, and `rest` is behind it.
 record Stands (at : ℕ) (a : Action) (l rest : List ℕ) : Type 0 where
@@ -139,9 +139,6 @@ heading_back (Depot _) actions = refl
 heading_back (Field _) actions = refl
 
 module _ (text : List ℕ) (places : List Action) (rule : Rule) (actions : List Action) (from : FromPlan text places rule actions) where
-  has_room : ltb (length places) (length text) ≡ false
-  has_room = let h = from.room in grind (arith, nat_tests)
-
   says : reading text ≡ record { actions = actions; fault = None }
   says = ap reading from.is ∙ reading_back rule actions from.fit
 
@@ -149,10 +146,10 @@ module _ (text : List ℕ) (places : List Action) (rule : Rule) (actions : List 
   names = ap (λ (l : List ℕ). (heading 0 l).0) from.is ∙ heading_back rule actions
 
   plan_back : read_answer (length places) text ≡ Ok (record { rule = rule; count = length actions })
-  plan_back = rw has_room (ap (λ (x : Reading). told (heading 0 text).0 (counted x)) says ∙ ap (λ (x : Rule). told x (Ok (length actions))) names)
+  plan_back = rw (le-ltb (length places) (length text) from.room) (ap (λ (x : Reading). told (heading 0 text).0 (counted x)) says ∙ ap (λ (x : Rule). told x (Ok (length actions))) names)
 
   put_back : read_into places text ≡ put_over actions places
-  put_back = rw has_room (ap (λ (x : Reading). put_over x.actions places) says)
+  put_back = rw (le-ltb (length places) (length text) from.room) (ap (λ (x : Reading). put_over x.actions places) says)
 
 pub read_back : (text : List ℕ) (places places' : List Action) (r : Result Plan Fault) → r ≡ read_answer (length places) text → places' ≡ read_into places text → ReadBack text places places' r
 read_back text places places' r e f =

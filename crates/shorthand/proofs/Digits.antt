@@ -25,16 +25,5 @@ digits_rise n at (c ∷ l) =
     elim (is_ascii_digit c) as (λ (b : Bool). P (cond b (digits_on (10 * n + (c - 48)) (at + 1) l) (n, at)))
     [ true ↦ (omega arith, omega arith) | false ↦ (omega arith, omega arith) ]
 
--- what the digits come to
-module _ (at : ℕ) (p : ℕ × ℕ) where
-  pub fitting_read : at < p.1 → p.0 < 2 ^ 32 → fitting at p ≡ Ok p
-  fitting_read h k = grind (arith, nat_tests)
-
-  pub none_read : p.1 ≡ at → fitting at p ≡ Err (wrong at NoNumber)
-  none_read h = grind (arith, nat_tests)
-
-  pub large_read : at < p.1 → 2 ^ 32 ≤ p.0 → fitting at p ≡ Err (wrong at TooLarge)
-  large_read h k = grind (arith, nat_tests)
-
 -- what `number` is proved by
-pub ruleset steps = (common_steps, digits_more, digits_stop, digits_rise, fitting_read, none_read, large_read)
+pub ruleset steps = (common_steps, nat_tests, digits_more, digits_stop, digits_rise)
