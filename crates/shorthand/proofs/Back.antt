@@ -1,5 +1,5 @@
 -- A plan that was written is read back.
-use Rattle.std.proofs.Common.{◌≡◌, ℕ, zero, suc, ◌+◌, ◌-◌, ◌*◌, ◌/◌, ◌%◌, ◌^◌, ◌<◌, true, false, eqb, ltb, List, [], ◌∷◌, ◌++◌, length, drop, Some, None, Ok, codes, decimal, Result, refl, ap, ◌∙◌, add-zero, arith}
+use Rattle.std.proofs.Common.{◌≡◌, ℕ, zero, suc, ◌+◌, ◌-◌, ◌*◌, ◌/◌, ◌%◌, ◌^◌, ◌<◌, true, false, eqb, List, [], ◌∷◌, ◌++◌, length, drop, Some, None, Ok, codes, decimal, Result, refl, ap, ◌∙◌, add-zero, arith}
 use Rattle.std.proofs.Math.Bool.{and-false}
 use Rattle.std.specs.Str.Parse.{AllDigits, digits_value_after}
 use Rattle.std.specs.Char.{is_ascii_digit, digit_value}
@@ -13,9 +13,9 @@ use Rattle.shorthand.specs.declared.words.Action.{Action}
 use Rattle.shorthand.specs.declared.words.Action.TheVariants.{OpenTask, OpenFinish, Close, Access, Ask}
 use Rattle.shorthand.specs.declared.words.Fault.{Fault}
 use Rattle.shorthand.specs.declared.words.Plan.{Plan}
-use Rattle.shorthand.specs.Numbers.{digits_on, fitting, number_at}
+use Rattle.shorthand.specs.Numbers.{digits_on, number_at}
 use Rattle.shorthand.specs.Actions.{hex, acting, action_at}
-use Rattle.shorthand.specs.Reading.{is_blank, heading, Reading, reading, said, counted, told, put_over, read_answer, read_into}
+use Rattle.shorthand.specs.Reading.{is_blank, heading, reading, said, put_over, read_answer, read_into}
 use Rattle.shorthand.specs.Written.{digit, class_text, action_text, actions_text, written, Fits, AllFit, FromPlan, ReadBack}
 use Rattle.shorthand.proofs.Said.{ahead, said_on, step_blank, step_action}
 
@@ -96,11 +96,7 @@ classed at c n rest h k =
     }
 
 hex_text : (c : ℕ) → 2 < c → class_text c ≡ digit (c / 16) ∷ digit (c % 16) ∷ codes "@"
-hex_text c h =
-    let e : eqb c 0 ≡ false = grind (arith, nat_tests) in
-    let f : eqb c 1 ≡ false = grind (arith, nat_tests) in
-    let g : eqb c 2 ≡ false = grind (arith, nat_tests) in
-    rw (e, f, g)
+hex_text c h = grind (arith, nat_tests)
 
 stands : (at : ℕ) (a : Action) (rest : List ℕ) → Fits a → Stands at a (action_text a ++ 32 ∷ rest) (32 ∷ rest)
 stands at OpenTask rest h = record { first = 84; tail = 32 ∷ rest; begins = refl; seen = refl; more = 0; acts = rw add-zero; behind = refl }
@@ -128,28 +124,28 @@ actions_back (a ∷ rest) h at =
 named_back : (l : List ℕ) (actions : List Action) → AllFit actions → drop 5 l ≡ 32 ∷ actions_text actions → said 5 0 l ≡ record { actions = actions; fault = None }
 named_back l actions h e = said_on 5 0 l ∙ rw e (step_blank 5 32 (actions_text actions) refl ∙ actions_back actions h 6)
 
-pub reading_back : (rule : Rule) (actions : List Action) → AllFit actions → reading (written rule actions) ≡ record { actions = actions; fault = None }
+reading_back : (rule : Rule) (actions : List Action) → AllFit actions → reading (written rule actions) ≡ record { actions = actions; fault = None }
 reading_back (Plain r) actions h = named_back (written (Plain r) actions) actions h refl
 reading_back (Depot r) actions h = named_back (written (Depot r) actions) actions h refl
 reading_back (Field r) actions h = named_back (written (Field r) actions) actions h refl
 
-pub heading_back : (rule : Rule) (actions : List Action) → (heading 0 (written rule actions)).0 ≡ rule
+heading_back : (rule : Rule) (actions : List Action) → (heading 0 (written rule actions)).0 ≡ rule
 heading_back (Plain _) actions = refl
 heading_back (Depot _) actions = refl
 heading_back (Field _) actions = refl
 
 module _ (text : List ℕ) (places : List Action) (rule : Rule) (actions : List Action) (from : FromPlan text places rule actions) where
   says : reading text ≡ record { actions = actions; fault = None }
-  says = ap reading from.is ∙ reading_back rule actions from.fit
+  says = rw from.is (reading_back rule actions from.fit)
 
   names : (heading 0 text).0 ≡ rule
-  names = ap (λ (l : List ℕ). (heading 0 l).0) from.is ∙ heading_back rule actions
+  names = rw from.is (heading_back rule actions)
 
   plan_back : read_answer (length places) text ≡ Ok (record { rule = rule; count = length actions })
-  plan_back = rw (le-ltb (length places) (length text) from.room) (ap (λ (x : Reading). told (heading 0 text).0 (counted x)) says ∙ ap (λ (x : Rule). told x (Ok (length actions))) names)
+  plan_back = rw (le-ltb (length places) (length text) from.room, says, names)
 
   put_back : read_into places text ≡ put_over actions places
-  put_back = rw (le-ltb (length places) (length text) from.room) (ap (λ (x : Reading). put_over x.actions places) says)
+  put_back = rw (le-ltb (length places) (length text) from.room, says)
 
 pub read_back : (text : List ℕ) (places places' : List Action) (r : Result Plan Fault) → r ≡ read_answer (length places) text → places' ≡ read_into places text → ReadBack text places places' r
 read_back text places places' r e f =

@@ -1,12 +1,10 @@
 -- Reading a number digit by digit.
-use Rattle.std.proofs.Common.{◌≡◌, ℕ, ◌+◌, ◌-◌, ◌*◌, ◌^◌, ◌<◌, ◌≤◌, Bool, true, false, cond, List, [], ◌∷◌, length, get_or, drop, Some, None, Ok, Err, arith}
+use Rattle.std.proofs.Common.{◌≡◌, ℕ, ◌+◌, ◌-◌, ◌*◌, ◌<◌, ◌≤◌, Bool, true, false, cond, List, [], ◌∷◌, length, get_or, drop, Some, None, arith}
 use Rattle.std.specs.Char.{is_ascii_digit}
 use Rattle.std.proofs.lemmas.List.{drop_more, drop_all}
 use Rattle.std.proofs.lemmas.Bool.Decides.{nat_tests}
 use Rattle.std.proofs.lemmas.Grind.{common_steps}
-use Rattle.shorthand.specs.declared.words.Reason.TheVariants.{NoNumber, TooLarge}
-use Rattle.shorthand.specs.Words.{wrong}
-use Rattle.shorthand.specs.Numbers.{digits_on, fitting}
+use Rattle.shorthand.specs.Numbers.{digits_on}
 
 -- at the place p of a text
 module _ (l : List ℕ) (n p : ℕ) where

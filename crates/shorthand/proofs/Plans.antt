@@ -1,5 +1,5 @@
 -- A whole plan.
-use Rattle.std.proofs.Common.{◌≡◌, ℕ, ◌≤◌, false, ltb, List, length, drop, Result, sym, zero-add, arith}
+use Rattle.std.proofs.Common.{◌≡◌, ℕ, ◌≤◌, List, length, drop, Result, sym, zero-add}
 use Rattle.std.proofs.lemmas.Bool.{le-ltb}
 use Rattle.rules.specs.declared.Rule.{Rule}
 use Rattle.shorthand.specs.declared.words.Action.{Action}
