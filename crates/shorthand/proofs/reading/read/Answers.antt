@@ -1,15 +1,10 @@
-use Rattle.std.proofs.Common.{◌≡◌, length, Err, ap, sym, ◌∙◌, arith}
-use Rattle.std.proofs.lemmas.Grind.{common_steps}
-use Rattle.std.proofs.lemmas.Bool.Decides.{nat_tests}
+use Rattle.std.proofs.Common.{◌≡◌, length, Err, ap, sym, ◌∙◌}
 use Rattle.std.proofs.lemmas.Result.{err_from_is_err_and}
 use Rattle.shorthand.specs.Reading.{told, read_answer, read_into}
 use Rattle.shorthand.proofs.Plans.{all_read}
 use Rattle.shorthand.proofs.Back.{read_back}
 use Rattle.shorthand.proofs.reading.read.Goals as goal
 use Rattle.shorthand.proofs.reading.read.Goals.{After-actions}
-
-pub returns-then-actions-text : goal.returns-then-actions-text
-returns-then-actions-text c = grind (arith, nat_tests, common_steps, read_back)
 
 -- the name of the rule is read, and from there on the actions
 all : (c : After-actions) → (told c.rule-rule.result c.actions.result ≡ read_answer (length c.args.actions.now) c.args.text.now) × (c.actions.new.places ≡ read_into c.args.actions.now c.args.text.now)
