@@ -6,8 +6,6 @@ use Rattle.graph.specs.History.{open_task, open_finish, close, access, History, 
 use Rattle.rows.specs.declared.row.Row.{Row}
 use Rattle.rows.specs.declared.row.Slot.{Slot}
 use Rattle.rows.specs.declared.words.Leader.{Leader}
-use Rattle.rows.specs.declared.words.Finding.{Finding}
-use Rattle.rows.specs.declared.words.Finding.TheVariants.{Clash}
 use Rattle.rows.specs.Slots.{holds_class, has_room, leader_in, led_by, first_clash, settled}
 use Rattle.rows.specs.Rows.{no_slot, filled}
 use Rattle.conversation.specs.Leaders.{with_class, reached, newest, taken_over, leader, slot_of, slots_of, row_of}
@@ -109,10 +107,10 @@ found_each : (s : Setting) (h : History) (c r : ℕ) (l : List Slot) → Each (�
 found_each s h c r [] e = refl
 found_each s h c r (x ∷ l) (e, es) =
     ap (λ (o : Option Leader). cond (s.clash x.class c) (clash_or h o (first_found s h c r (classes l))) (first_found s h c r (classes l))) e ∙
-    ap (λ (f : Finding). cond (s.clash x.class c) (cond (is_free h x.task) (Clash (x.event, length h)) f) f) (found_each s h c r l es) ∙
+    ap (λ (f : Option (ℕ × ℕ)). cond (s.clash x.class c) (cond (is_free h x.task) (Some (x.event, length h)) f) f) (found_each s h c r l es) ∙
     go (s.clash x.class c) (is_free h x.task) (first_clash s.clash (is_free h) c (length h) l)
   where
-    go : (a b : Bool) (f : Finding) → cond a (cond b (Clash (x.event, length h)) f) f ≡ cond (a && b) (Clash (x.event, length h)) f
+    go : (a b : Bool) (f : Option (ℕ × ℕ)) → cond a (cond b (Some (x.event, length h)) f) f ≡ cond (a && b) (Some (x.event, length h)) f
     go true b f = refl
     go false b f = refl
 

@@ -7,8 +7,6 @@ use Rattle.orderings.specs.Past.{kind_of, as_begun, Means}
 use Rattle.orderings.proofs.Means.{kind_stays, kind_innermost}
 use Rattle.orderings.proofs.Telling.{kind_as}
 use Rattle.rows.specs.declared.row.Slot.{Slot}
-use Rattle.rows.specs.declared.words.Finding.{Finding}
-use Rattle.rows.specs.declared.words.Finding.TheVariants.{Clash}
 use Rattle.rows.specs.Slots.{holds_class, has_room, first_clash, settled}
 use Rattle.rows.specs.Rows.{is_unordered_in, says_unordered, says_task, slots_whole}
 use Rattle.conversation.specs.Replies.{Setting}
@@ -80,8 +78,8 @@ module _ (n : ℕ) (h : History) (m : Meaning) (M : Means n h m) where
   pub first_same : (s : Setting) (c n : ℕ) (l : List Slot) → AllSane s h l → first_clash s.clash (is_unordered_in m.begun) c n l ≡ first_clash s.clash (is_free h) c n l
   first_same s c n [] a = refl
   first_same s c n (x ∷ l) ((k, t, b), a) =
-      ap (λ (z : Bool). cond (s.clash x.class c && z) (Clash (x.event, n)) (first_clash s.clash (is_unordered_in m.begun) c n l)) (free_as x.task t) ∙
-      ap (λ (f : Finding). cond (s.clash x.class c && is_free h x.task) (Clash (x.event, n)) f) (first_same s c n l a)
+      ap (λ (z : Bool). cond (s.clash x.class c && z) (Some (x.event, n)) (first_clash s.clash (is_unordered_in m.begun) c n l)) (free_as x.task t) ∙
+      ap (λ (f : Option (ℕ × ℕ)). cond (s.clash x.class c && is_free h x.task) (Some (x.event, n)) f) (first_same s c n l a)
 
   pub settled_same : (s : Setting) (c e u : ℕ) (l : List Slot) → AllSane s h l → settled (is_unordered_in m.begun) (slot c e u) l ≡ settle h c e u l
   settled_same s c e u [] a = refl

@@ -1,5 +1,5 @@
 -- Conversations: the events of a part, the exchange that an event comes from, and what the replies let into the history.
-use Rattle.std.proofs.Common.{◌≡◌, ℕ, ◌<◌, Bool, true, false, cond, T, ltb, ◌⊎◌, List, [], ◌∷◌, ◌++◌, length, Some, None, Option, sym, refl, ap, ◌∙◌, inl, inr, ⊎_elim, arith, ltb→lt}
+use Rattle.std.proofs.Common.{◌≡◌, ℕ, ◌<◌, Bool, true, false, cond, T, ltb, ◌⊎◌, List, [], ◌∷◌, ◌++◌, length, is_err, Ok, Err, Some, None, Option, sym, refl, ap, ◌∙◌, inl, inr, ⊎_elim, arith, ltb→lt}
 use mathlib.Core.Path.{subst⁻¹}
 use Rattle.graph.specs.History.{Event, open_task, open_finish, close, access, History, Accepted, scopes, innermost}
 use Rattle.graph.specs.Graph.{Put, Path, newest, older}
@@ -7,19 +7,14 @@ use Rattle.graph.proofs.OpenScopes.{Tail, same, more}
 use Rattle.graph.proofs.LeadersDecide.{put_cases}
 use Rattle.graph.proofs.Arrows.{path_older, path_cases}
 use Rattle.trace_check.specs.declared.words.Call.{Call}
-use Rattle.trace_check.specs.declared.words.Call.TheVariants.{OpenTask, OpenFinish, Close, Access, Ask}
+use Rattle.trace_check.specs.declared.words.Call.TheVariants.{Open, Close, Access, Ask}
 use Rattle.trace_check.specs.declared.words.Refusal.{Refusal}
-use Rattle.rows.specs.declared.words.Finding.{Finding}
-use Rattle.trace_check.specs.declared.words.Reply.{Reply}
-use Rattle.trace_check.specs.declared.words.Reply.TheVariants.{Closed, Found, Refused}
-use Rattle.conversation.specs.declared.words.Exchange.{Exchange}
+use Rattle.trace_check.specs.declared.words.Reply.TheVariants.{Closed, Found}
+use Rattle.conversation.specs.Exchanges.{Answer, Exchange}
+use Rattle.orderings.specs.declared.words.Kind.TheVariants.{Task, Finish}
 use Rattle.orderings.specs.Inquiries.{noted}
-use Rattle.conversation.specs.Replies.{Setting, reply_to, is_refusal, event_of, after, after_all, room_for, first_found}
+use Rattle.conversation.specs.Replies.{Setting, reply_to, event_of, after, after_all, room_for, first_found}
 use Rattle.conversation.specs.Leaders.{reached}
-
-pub after_append : (xs ys : List Exchange) (h : History) → after_all (xs ++ ys) h ≡ after_all ys (after_all xs h)
-after_append [] ys h = refl
-after_append (x ∷ xs) ys h = after_append xs ys (after x h)
 
 pub tail_trans : {a b c : History} → Tail a b → Tail b c → Tail a c
 tail_trans same t = t
@@ -32,7 +27,7 @@ tail_noted false (Some e) h = more same
 
 pub after_tail : (xs : List Exchange) (h : History) → Tail (after_all xs h) h
 after_tail [] h = same
-after_tail (x ∷ xs) h = tail_trans (after_tail xs (after x h)) (tail_noted (is_refusal x.reply) (event_of x.call) h)
+after_tail (x ∷ xs) h = tail_trans (after_tail xs (after x h)) (tail_noted (is_err x.reply) (event_of x.call) h)
 
 pub put_later : {h q : History} → Tail h q → {i : ℕ} {e : Event} {p : History} → Put q i e p → Put h i e p
 put_later same p = p
@@ -62,10 +57,10 @@ pub record Source (h : History) (xs : List Exchange) (e : Event) (p : History) :
   pub rest : List Exchange
   pub split : xs ≡ earlier ++ which ∷ rest
   pub past : after_all earlier h ≡ p
-  pub accepted : is_refusal which.reply ≡ false
+  pub accepted : is_err which.reply ≡ false
   pub event : event_of which.call ≡ Some e
 
-source_first : (x : Exchange) (xs : List Exchange) (h : History) {j : ℕ} {e : Event} {p : History} → (b : Bool) → is_refusal x.reply ≡ b → (o : Option Event) → event_of x.call ≡ o → Put (cond b h (noted o h)) j e p → Put h j e p ⊎ Source h (x ∷ xs) e p
+source_first : (x : Exchange) (xs : List Exchange) (h : History) {j : ℕ} {e : Event} {p : History} → (b : Bool) → is_err x.reply ≡ b → (o : Option Event) → event_of x.call ≡ o → Put (cond b h (noted o h)) j e p → Put h j e p ⊎ Source h (x ∷ xs) e p
 source_first x xs h true f o g q = inl q
 source_first x xs h false f None g q = inl q
 source_first x xs h {e = e} {p = p} false f (Some d) g q = ⊎_elim (λ v. inr (record { earlier = []; which = x; rest = xs; split = refl; past = sym v.2; accepted = f; event = g ∙ ap Some (sym v.1) })) inl (put_cases q)
@@ -75,7 +70,7 @@ source_later {x = x} s = record { earlier = x ∷ s.earlier; which = s.which; re
 
 pub source : (xs : List Exchange) (h : History) {j : ℕ} {e : Event} {p : History} → Put (after_all xs h) j e p → Put h j e p ⊎ Source h xs e p
 source [] h q = inl q
-source (x ∷ xs) h q = ⊎_elim (λ r. source_first x xs h (is_refusal x.reply) refl (event_of x.call) refl r) (λ s. inr (source_later s)) (source xs (after x h) q)
+source (x ∷ xs) h q = ⊎_elim (λ r. source_first x xs h (is_err x.reply) refl (event_of x.call) refl r) (λ s. inr (source_later s)) (source xs (after x h) q)
 
 -- every access has a class that the rule knows
 abbrev pub Known : Setting → History → Type 0
@@ -100,12 +95,12 @@ module _ (s : Setting) (h : History) (g : Good s h) where
   either true k z = g
   either false k z = z
 
-  close_step : (a b : Bool) (n : ℕ) (x y : Refusal) → (T b → 1 < length (scopes h)) → Good s (cond (is_refusal (cond a (cond b (Closed n) (Refused x)) (Refused y))) h (close ∷ h))
+  close_step : (a b : Bool) (n : ℕ) (x y : Refusal) → (T b → 1 < length (scopes h)) → Good s (cond (is_err (cond a (cond b (Ok (Closed n)) (Err x)) (Err y))) h (close ∷ h))
   close_step true true n x y f = ((g.0, f tt), g.1)
   close_step true false n x y f = g
   close_step false b n x y f = g
 
-  access_step : (a b k m : Bool) (c r : ℕ) (f : Finding) (x y z w : Refusal) → (T k → T (s.known c)) → Good s (cond (is_refusal (cond a (cond b (cond k (cond m (Found f) (Refused x)) (Refused y)) (Refused z)) (Refused w))) h (access c r ∷ h))
+  access_step : (a b k m : Bool) (c r : ℕ) (f : Option (ℕ × ℕ)) (x y z w : Refusal) → (T k → T (s.known c)) → Good s (cond (is_err (cond a (cond b (cond k (cond m (Ok (Found f)) (Err x)) (Err y)) (Err z)) (Err w))) h (access c r ∷ h))
   access_step true true true true c r f x y z w t = (g.0, (t tt, g.1))
   access_step true true true false c r f x y z w t = g
   access_step true true false m c r f x y z w t = g
@@ -113,15 +108,15 @@ module _ (s : Setting) (h : History) (g : Good s h) where
   access_step false b k m c r f x y z w t = g
 
   -- what a right reply lets in
-  step : (call : Call) → Good s (cond (is_refusal (reply_to s h call)) h (noted (event_of call) h))
-  step OpenTask = either (is_refusal (reply_to s h OpenTask)) (open_task ∷ h) g
-  step OpenFinish = either (is_refusal (reply_to s h OpenFinish)) (open_finish ∷ h) g
+  step : (call : Call) → Good s (cond (is_err (reply_to s h call)) h (noted (event_of call) h))
+  step (Open Task) = either (is_err (reply_to s h (Open Task))) (open_task ∷ h) g
+  step (Open Finish) = either (is_err (reply_to s h (Open Finish))) (open_finish ∷ h) g
   step Close = close_step (ltb (length h) s.limit) (ltb 1 (length (scopes h))) (innermost (scopes h)) _ _ (λ t. ltb→lt 1 (length (scopes h)) t)
   step (Access c r) = access_step (ltb (length h) s.limit) (ltb r s.records) (s.known c) (room_for c (reached h r)) c r (first_found s h c r (reached h r)) _ _ _ _ (λ t. t)
-  step (Ask q) = either (is_refusal (reply_to s h (Ask q))) h g
+  step (Ask q) = either (is_err (reply_to s h (Ask q))) h g
 
 pub good_after : (s : Setting) (h : History) → Good s h → (x : Exchange) → x.reply ≡ reply_to s h x.call → Good s (after x h)
-good_after s h g x e = subst⁻¹ (λ (r : Reply). Good s (cond (is_refusal r) h (noted (event_of x.call) h))) e (step s h g x.call)
+good_after s h g x e = subst⁻¹ (λ (r : Answer). Good s (cond (is_err r) h (noted (event_of x.call) h))) e (step s h g x.call)
 
 abbrev pub RightFrom : Setting → History → List Exchange → Type 0
 RightFrom s h xs = (b : List Exchange) (x : Exchange) (rest : List Exchange) → xs ≡ b ++ x ∷ rest → x.reply ≡ reply_to s (after_all b h) x.call

@@ -1,35 +1,39 @@
 -- One call: the reply is that of the history, and what is kept follows the history.
-use Rattle.std.proofs.Common.{◌≡◌, ℕ, zero, suc, ◌+◌, ◌-◌, ◌<◌, ◌≤◌, Bool, true, false, cond, not, eqb, ltb, leb, ◌≢◌, ◌⊎◌, List, [], ◌∷◌, ◌++◌, length, get_or, drop, set, replicate, Ok, Err, Result, sym, refl, ap, ◌∙◌, inl, inr, add-zero, arith, ltb-false, ltb-true, eq-eqb, ne_eqb, le-leb, leb-false, leb-true}
+use Rattle.std.proofs.Common.{◌≡◌, ℕ, zero, suc, ◌+◌, ◌-◌, ◌<◌, ◌≤◌, Bool, true, false, cond, not, eqb, ltb, leb, ◌≢◌, ◌⊎◌, List, [], ◌∷◌, ◌++◌, length, get_or, drop, set, replicate, is_err, Option, Ok, Err, Result, sym, refl, ap, ◌∙◌, inl, inr, add-zero, arith, ltb-false, ltb-true, eq-eqb, ne_eqb, le-leb, leb-false, leb-true}
 use mathlib.Core.Path.{subst⁻¹}
 use borrow.Author.Tests.{lt-leb}
 use Rattle.std.proofs.lemmas.List.{get_or-set_same, get_or-set_other, length-set, drop-replicate}
 use Rattle.graph.specs.History.{Event, open_task, open_finish, close, access, History, Scope, begun, scopes, innermost, innermost_task}
 use Rattle.graph.proofs.Places.{by_eqb}
+use Rattle.orderings.specs.declared.questions.Told.{Told}
 use Rattle.orderings.specs.declared.words.Fault.{Fault}
 use Rattle.orderings.specs.declared.words.Fault.TheVariants.{NoNumberLeft, MainAlone}
+use Rattle.orderings.specs.declared.words.Kind.{Kind}
 use Rattle.orderings.specs.declared.words.Kind.TheVariants.{Task, Finish}
 use Rattle.orderings.specs.Meaning.{Meaning, with_scope, without_innermost}
 use Rattle.orderings.specs.Past.{Means}
-use Rattle.orderings.proofs.Means.{means_task, means_finish, means_close, means_access}
+use Rattle.orderings.proofs.Means.{means_open, means_close, means_access}
 use Rattle.orderings.proofs.Telling.{telling_as}
 use Rattle.rows.specs.declared.row.Row.{Row}
 use Rattle.rows.specs.declared.row.Slot.{Slot}
-use Rattle.rows.specs.declared.words.Finding.{Finding}
 use Rattle.rows.specs.declared.words.RowFault.{RowFault}
 use Rattle.rows.specs.declared.words.RowFault.TheVariants.{Full, Damaged}
 use Rattle.rows.specs.Slots.{has_room, first_clash, settled}
 use Rattle.rows.specs.Rows.{no_slot, no_row, filled, refilled, is_unordered_in, slots_whole, row_whole, row_answer}
 use Rattle.trace_check.specs.declared.words.Call.{Call}
-use Rattle.trace_check.specs.declared.words.Call.TheVariants.{OpenTask, OpenFinish, Close, Access, Ask}
+use Rattle.trace_check.specs.declared.words.Call.TheVariants.{Open, Close, Access, Ask}
 use Rattle.trace_check.specs.declared.words.Refusal.{Refusal}
 use Rattle.trace_check.specs.declared.words.Refusal.TheVariants.{LimitReached, NoSuchRecord, UnknownClass, Row as RowRefuses, Order}
 use Rattle.trace_check.specs.declared.words.Reply.{Reply}
-use Rattle.trace_check.specs.declared.words.Reply.TheVariants.{Opened, Closed, Found, Refused}
+use Rattle.trace_check.specs.declared.words.Reply.TheVariants.{Opened, Closed, Found, Told as ToldSo}
 use Rattle.conversation.specs.Leaders.{reached, row_of}
-use Rattle.orderings.specs.Inquiries.{noted}
-use Rattle.conversation.specs.Replies.{Setting, reply_to, is_refusal, event_of, room_for, first_found, accesses, clashes_found}
-use Rattle.trace_check.specs.Calls.{View, from_order, from_row, one_more, access_answer, one_clash, one_access, access_rows}
-use Rattle.trace_check.specs.Puts.{Store, open_told, close_told, access_told, question_told, reply_of, left_by}
+use Rattle.orderings.specs.Inquiries.{opens, noted}
+use Rattle.orderings.specs.Questions.{ok_as}
+use Rattle.conversation.specs.Exchanges.{Answer}
+use Rattle.conversation.specs.Replies.{Setting, reply_to, event_of, room_for, first_found, accesses, clashes_found}
+use Rattle.trace_check.specs.View.{View}
+use Rattle.trace_check.specs.Calls.{by_ordering, by_row, one_more, access_answer, one_clash, one_access, access_rows}
+use Rattle.trace_check.specs.Puts.{Store, reply_of, left_by}
 use Rattle.conversation.specs.State.{State}
 use Rattle.conversation.proofs.RowsLead.{slot, settle, row, row_leads}
 use Rattle.conversation.proofs.RowsOfHistory.{room_as, found_as, length_as, filled_as, row_from, row_of_as}
@@ -84,51 +88,49 @@ module _ (s : Setting) (h : History) (σ : Store) (S : State s h σ) (g : Good s
   }
 
   -- an open or a close: x tells whether there is room for an event, y whether the ordering refuses
-  module _ (tell : Result ℕ Refusal → Reply) (yes-told : ℕ → Reply) (fault : Fault) (e : Event) (next : Meaning)
-      (ok : (n : ℕ) → tell (Ok n) ≡ yes-told n) (err : (x : Refusal) → tell (Err x) ≡ Refused x) (fine : (n : ℕ) → is_refusal (yes-told n) ≡ false) where
+  module _ (told : ℕ → Reply) (fault : Fault) (e : Event) (next : Meaning) where
     abbrev outcome : Bool → Bool → ℕ → Result ℕ Refusal
-    outcome x y n = cond x (from_order (cond y (Err fault) (Ok n))) (Err LimitReached)
+    outcome x y n = cond x (by_ordering (cond y (Err fault) (Ok n))) (Err LimitReached)
 
-    abbrev wanted : Bool → Bool → ℕ → Reply
-    wanted a b n = cond a (cond b (yes-told n) (Refused (Order fault))) (Refused LimitReached)
+    abbrev wanted : Bool → Bool → ℕ → Answer
+    wanted a b n = cond a (cond b (Ok (told n)) (Err (Order fault))) (Err LimitReached)
 
     abbrev Goal : Bool → Bool → ℕ → Bool → Bool → ℕ → Type 0
-    Goal a b n x y z = (tell (outcome x y z) ≡ wanted a b n) × State s (cond (is_refusal (wanted a b n)) h (e ∷ h)) (record { check = one_more k (outcome x y z); meaning = cond x (cond y m next) m; rows = σ.rows })
+    Goal a b n x y z = (ok_as told (outcome x y z) ≡ wanted a b n) × State s (cond (is_err (wanted a b n)) h (e ∷ h)) (record { check = one_more k (outcome x y z); meaning = cond x (cond y m next) m; rows = σ.rows })
 
     goal : (a b : Bool) (n : ℕ) → (b ≡ true → State s (e ∷ h) (record { check = one_more k (Ok n); meaning = next; rows = σ.rows })) → Goal a b n a (not b) n
-    goal true true n f = (ok n, subst⁻¹ (λ (t : Bool). State s (cond t h (e ∷ h)) (record { check = one_more k (Ok n); meaning = next; rows = σ.rows })) (fine n) (f refl))
-    goal true false n f = (err (Order fault), S)
-    goal false b n f = (err LimitReached, S)
+    goal true true n f = (refl, f refl)
+    goal true false n f = (refl, S)
+    goal false b n f = (refl, S)
 
     done : (a b : Bool) (n : ℕ) (x y : Bool) (z : ℕ) → x ≡ a → y ≡ not b → z ≡ n → (b ≡ true → State s (e ∷ h) (record { check = one_more k (Ok n); meaning = next; rows = σ.rows })) → Goal a b n x y z
     done a b n x y z p q r f = subst⁻¹ (λ (t : Bool). Goal a b n t y z) p (subst⁻¹ (λ (t : Bool). Goal a b n a t z) q (subst⁻¹ (λ (t : ℕ). Goal a b n a (not b) t) r (goal a b n f)))
 
   abbrev Follows : Call → Type 0
-  Follows call = (reply_of s.known s.clash σ call ≡ reply_to s h call) × State s (cond (is_refusal (reply_to s h call)) h (noted (event_of call) h)) (left_by s.known s.clash σ call)
+  Follows call = (reply_of s.known s.clash σ call ≡ reply_to s h call) × State s (cond (is_err (reply_to s h call)) h (noted (event_of call) h)) (left_by s.known s.clash σ call)
 
   some_left : leb (begun h) s.numbers ≡ true → m.left ≢ 0
   some_left b z = let q = S.meaning.left in let l = leb-true (begun h) s.numbers b in omega arith
 
-  step_task : Follows OpenTask
-  step_task =
-      done open_told Opened NoNumberLeft open_task (with_scope Task m) (λ n. refl) (λ x. refl) (λ n. refl) (ltb (length h) s.limit) (leb (begun h) s.numbers) (begun h) (ltb k.events k.limit) (eqb m.left 0) (length m.begun) room (none_left m.left (begun h) s.numbers S.meaning.left) S.meaning.count
-      (λ b. quiet open_task (begun h) (with_scope Task m) (means_task s.numbers h m S.meaning (some_left b)) refl refl (λ r. refl) (λ r. refl))
-
-  step_finish : Follows OpenFinish
-  step_finish =
-      done open_told Opened NoNumberLeft open_finish (with_scope Finish m) (λ n. refl) (λ x. refl) (λ n. refl) (ltb (length h) s.limit) (leb (begun h) s.numbers) (begun h) (ltb k.events k.limit) (eqb m.left 0) (length m.begun) room (none_left m.left (begun h) s.numbers S.meaning.left) S.meaning.count
-      (λ b. quiet open_finish (begun h) (with_scope Finish m) (means_finish s.numbers h m S.meaning (some_left b)) refl refl (λ r. refl) (λ r. refl))
+  step_open : (kind : Kind) → Follows (Open kind)
+  step_open kind =
+      done Opened NoNumberLeft (opens kind) (with_scope kind m) (ltb (length h) s.limit) (leb (begun h) s.numbers) (begun h) (ltb k.events k.limit) (eqb m.left 0) (length m.begun) room (none_left m.left (begun h) s.numbers S.meaning.left) S.meaning.count
+      (λ b. opened kind (means_open s.numbers h m S.meaning kind (some_left b)))
+    where
+      opened : (kind : Kind) → Means s.numbers (opens kind ∷ h) (with_scope kind m) → State s (opens kind ∷ h) (record { check = one_more k (Ok (begun h)); meaning = with_scope kind m; rows = σ.rows })
+      opened Task M = quiet open_task (begun h) (with_scope Task m) M refl refl (λ r. refl) (λ r. refl)
+      opened Finish M = quiet open_finish (begun h) (with_scope Finish m) M refl refl (λ r. refl) (λ r. refl)
 
   step_close : Follows Close
   step_close =
-      done close_told Closed MainAlone close (without_innermost m) (λ n. refl) (λ x. refl) (λ n. refl) (ltb (length h) s.limit) (ltb 1 (length (scopes h))) (innermost (scopes h)) (ltb k.events k.limit) (leb (length m.opened) 1) (innermost m.opened) room (ap (λ (ss : List Scope). leb (length ss) 1) S.meaning.opened ∙ main_alone (length (scopes h))) (ap innermost S.meaning.opened)
+      done Closed MainAlone close (without_innermost m) (ltb (length h) s.limit) (ltb 1 (length (scopes h))) (innermost (scopes h)) (ltb k.events k.limit) (leb (length m.opened) 1) (innermost m.opened) room (ap (λ (ss : List Scope). leb (length ss) 1) S.meaning.opened ∙ main_alone (length (scopes h))) (ap innermost S.meaning.opened)
       (λ b. quiet close (innermost (scopes h)) (without_innermost m) (means_close s.numbers h m S.meaning) refl refl (λ r. refl) (λ r. refl))
 
   module _ (c r : ℕ) where
     abbrev ρ : Row
     ρ = get_or σ.rows r no_row
 
-    abbrev F : Finding
+    abbrev F : Option (ℕ × ℕ)
     F = first_found s h c r (reached h r)
 
     abbrev free : ℕ → Bool
@@ -164,22 +166,22 @@ module _ (s : Setting) (h : History) (σ : Store) (S : State s h σ) (g : Good s
     row_is l =
         ap (λ (t : Bool). cond t (cond (has_room c (filled ρ)) (Ok (first_clash s.clash free c k.events (filled ρ))) (Err Full)) (Err Damaged)) (whole_is l) ∙
         ap (λ (t : Bool). cond t (Ok (first_clash s.clash free c k.events (filled ρ))) (Err Full)) (room_is l) ∙
-        ap (λ (f : Finding). cond (room_for c (reached h r)) (Ok f) (Err Full)) (found_is l)
+        ap (λ (f : Option (ℕ × ℕ)). cond (room_for c (reached h r)) (Ok f) (Err Full)) (found_is l)
 
-    abbrev outcome_of : Bool → Bool → Bool → Bool → Result Finding Refusal
-    outcome_of a b d e = cond a (cond b (cond d (from_row (cond e (Ok F) (Err Full))) (Err UnknownClass)) (Err NoSuchRecord)) (Err LimitReached)
+    abbrev outcome_of : Bool → Bool → Bool → Bool → Result (Option (ℕ × ℕ)) Refusal
+    outcome_of a b d e = cond a (cond b (cond d (by_row (cond e (Ok F) (Err Full))) (Err UnknownClass)) (Err NoSuchRecord)) (Err LimitReached)
 
-    abbrev answer_now : Result Finding Refusal
+    abbrev answer_now : Result (Option (ℕ × ℕ)) Refusal
     answer_now = outcome_of (ltb (length h) s.limit) (ltb r s.records) (s.known c) (room_for c (reached h r))
 
     answer_is : access_answer s.known s.clash k m σ.rows c r ≡ answer_now
     answer_is =
-        ap (λ (t : Bool). cond t (cond (ltb r (length σ.rows)) (cond (s.known c) (from_row (row_answer s.known s.clash m k.events c ρ)) (Err UnknownClass)) (Err NoSuchRecord)) (Err LimitReached)) room ∙
-        ap (λ (n : ℕ). cond (ltb (length h) s.limit) (cond (ltb r n) (cond (s.known c) (from_row (row_answer s.known s.clash m k.events c ρ)) (Err UnknownClass)) (Err NoSuchRecord)) (Err LimitReached)) S.records ∙
-        ap (λ (x : Result Finding Refusal). cond (ltb (length h) s.limit) x (Err LimitReached)) (go (ltb r s.records) refl)
+        ap (λ (t : Bool). cond t (cond (ltb r (length σ.rows)) (cond (s.known c) (by_row (row_answer s.known s.clash m k.events c ρ)) (Err UnknownClass)) (Err NoSuchRecord)) (Err LimitReached)) room ∙
+        ap (λ (n : ℕ). cond (ltb (length h) s.limit) (cond (ltb r n) (cond (s.known c) (by_row (row_answer s.known s.clash m k.events c ρ)) (Err UnknownClass)) (Err NoSuchRecord)) (Err LimitReached)) S.records ∙
+        ap (λ (x : Result (Option (ℕ × ℕ)) Refusal). cond (ltb (length h) s.limit) x (Err LimitReached)) (go (ltb r s.records) refl)
       where
-        go : (b : Bool) → ltb r s.records ≡ b → cond b (cond (s.known c) (from_row (row_answer s.known s.clash m k.events c ρ)) (Err UnknownClass)) (Err NoSuchRecord) ≡ cond b (cond (s.known c) (from_row (cond (room_for c (reached h r)) (Ok F) (Err Full))) (Err UnknownClass)) (Err NoSuchRecord)
-        go true e = ap (λ (x : Result Finding RowFault). cond (s.known c) (from_row x) (Err UnknownClass)) (row_is (ltb-true r s.records e))
+        go : (b : Bool) → ltb r s.records ≡ b → cond b (cond (s.known c) (by_row (row_answer s.known s.clash m k.events c ρ)) (Err UnknownClass)) (Err NoSuchRecord) ≡ cond b (cond (s.known c) (by_row (cond (room_for c (reached h r)) (Ok F) (Err Full))) (Err UnknownClass)) (Err NoSuchRecord)
+        go true e = ap (λ (x : Result (Option (ℕ × ℕ)) RowFault). cond (s.known c) (by_row x) (Err UnknownClass)) (row_is (ltb-true r s.records e))
         go false e = refl
 
     abbrev settled_now : List Slot
@@ -244,12 +246,12 @@ module _ (s : Setting) (h : History) (σ : Store) (S : State s h σ) (g : Good s
         short_now q b (inl (p, f)) = let n = ap length (own q p ∙ sym f) in let z = settled_short l e in omega arith
         short_now q b (inr (p, f)) = let n = ap length f in let z = length_as h q in let y = S.few q b in omega arith
 
-    abbrev reply : Bool → Bool → Bool → Bool → Reply
-    reply a b d e = cond a (cond b (cond d (cond e (Found F) (Refused (RowRefuses Full))) (Refused UnknownClass)) (Refused NoSuchRecord)) (Refused LimitReached)
+    abbrev reply : Bool → Bool → Bool → Bool → Answer
+    reply a b d e = cond a (cond b (cond d (cond e (Ok (Found F)) (Err (RowRefuses Full))) (Err UnknownClass)) (Err NoSuchRecord)) (Err LimitReached)
 
     -- what the access comes to, where it was answered x
-    abbrev ComesTo : Reply → Result Finding Refusal → Type 0
-    ComesTo y x = (access_told x ≡ y) × State s (cond (is_refusal y) h (access c r ∷ h)) (record { check = one_access k x; meaning = m; rows = access_rows k m σ.rows c r x })
+    abbrev ComesTo : Answer → Result (Option (ℕ × ℕ)) Refusal → Type 0
+    ComesTo y x = (ok_as Found x ≡ y) × State s (cond (is_err y) h (access c r ∷ h)) (record { check = one_access k x; meaning = m; rows = access_rows k m σ.rows c r x })
 
     access_goal : (a b d e : Bool) → (b ≡ true → e ≡ true → State s (access c r ∷ h) (record { check = one_access k (Ok F); meaning = m; rows = set σ.rows r new_row })) → ComesTo (reply a b d e) (outcome_of a b d e)
     access_goal true true true true f = (refl, f refl refl)
@@ -267,8 +269,7 @@ module _ (s : Setting) (h : History) (σ : Store) (S : State s h σ) (g : Good s
   asked_state false = S
 
   pub step : (call : Call) → Follows call
-  step OpenTask = step_task
-  step OpenFinish = step_finish
+  step (Open kind) = step_open kind
   step Close = step_close
   step (Access c r) = step_access c r
-  step (Ask q) = (ap question_told (telling_as s.numbers h m S.meaning q), asked_state (is_refusal (reply_to s h (Ask q))))
+  step (Ask q) = (ap (λ (x : Result Told Fault). ok_as ToldSo (by_ordering x)) (telling_as s.numbers h m S.meaning q), asked_state (is_err (reply_to s h (Ask q))))

@@ -1,57 +1,38 @@
 -- The replies in turn.
-use Rattle.std.proofs.Common.{◌≡◌, ℕ, ◌+◌, ◌<◌, cond, List, [], ◌∷◌, ◌++◌, length, get_or, take, set, sym, ap, ◌∙◌, subst}
+use Rattle.std.proofs.Common.{◌≡◌, ℕ, ◌+◌, ◌<◌, cond, List, [], ◌∷◌, length, is_err, take, set, ap, ◌∙◌}
 use mathlib.Core.Path.{subst⁻¹}
-use Rattle.std.proofs.lemmas.List.{take_more_set, map-set, set-get_or}
 use Rattle.graph.specs.History.{History}
 use Rattle.orderings.specs.Meaning.{Meaning}
 use Rattle.rows.specs.declared.row.Row.{Row}
 use Rattle.trace_check.specs.declared.words.Call.{Call}
-use Rattle.trace_check.specs.declared.words.Reply.{Reply}
-use Rattle.conversation.specs.declared.words.Exchange.{Exchange}
+use Rattle.conversation.specs.Exchanges.{Answer, Exchange}
 use Rattle.orderings.specs.Inquiries.{noted}
-use Rattle.conversation.specs.Replies.{Setting, reply_to, is_refusal, event_of, after, after_all, events}
-use Rattle.conversation.specs.Theorem.{RepliesRight}
-use Rattle.trace_check.specs.Calls.{View}
+use Rattle.conversation.specs.Replies.{Setting, reply_to, event_of, after, after_all, events}
+use Rattle.trace_check.specs.View.{View}
 use Rattle.trace_check.specs.Puts.{Store, reply_of, left_by}
 use Rattle.conversation.specs.State.{State}
-use Rattle.conversation.specs.Conversation.{calls_of}
-use Rattle.conversation.proofs.Runs.{Good, good_after, after_append}
+use Rattle.orderings.proofs.Turns.{InTurn as InTurnOf, one_turn as one_turn_of, after_more}
+use Rattle.conversation.proofs.Runs.{Good, good_after}
 use Rattle.conversation.proofs.Step.{step}
 
 abbrev pub InTurn : Setting → History → List Exchange → Type 0
-InTurn s h [] = Unit {0}
-InTurn s h (x ∷ xs) = (x.reply ≡ reply_to s h x.call) × InTurn s (after x h) xs
-
-pub turn_more : (s : Setting) (h : History) (xs : List Exchange) (x : Exchange) → InTurn s h xs → x.reply ≡ reply_to s (after_all xs h) x.call → InTurn s h (xs ++ x ∷ [])
-turn_more s h [] x t e = (e, tt)
-turn_more s h (y ∷ xs) x (p, t) e = (p, turn_more s (after y h) xs x t e)
-
-turn_at : (s : Setting) (h : History) (b : List Exchange) (x : Exchange) (rest : List Exchange) → InTurn s h (b ++ x ∷ rest) → x.reply ≡ reply_to s (after_all b h) x.call
-turn_at s h [] x rest t = t.0
-turn_at s h (y ∷ b) x rest t = turn_at s (after y h) b x rest t.1
-
-pub turn_right : (s : Setting) (all : List Exchange) → InTurn s [] all → RepliesRight s all
-turn_right s all t b x (rest, e) = turn_at s [] b x rest (subst (InTurn s []) e t)
+InTurn s = InTurnOf (reply_to s) (λ h x. after x h)
 
 pub turn_good : (s : Setting) (h : History) (xs : List Exchange) → Good s h → InTurn s h xs → Good s (after_all xs h)
 turn_good s h [] g t = g
 turn_good s h (x ∷ xs) g t = turn_good s (after x h) xs (good_after s h g x t.0) t.1
 
 -- one exchange more
-pub one_turn : (s : Setting) (xs : List Exchange) (i : ℕ) (call : Call) (reply : Reply) (σ τ : Store) → i < length xs → reply ≡ reply_of s.known s.clash σ call → τ ≡ left_by s.known s.clash σ call →
+pub one_turn : (s : Setting) (xs : List Exchange) (i : ℕ) (call : Call) (reply : Answer) (σ τ : Store) → i < length xs → reply ≡ reply_of s.known s.clash σ call → τ ≡ left_by s.known s.clash σ call →
     InTurn s [] (take i xs) × State s (events (take i xs)) σ →
     InTurn s [] (take (i + 1) (set xs i (record { call = call; reply = reply }))) × State s (events (take (i + 1) (set xs i (record { call = call; reply = reply })))) τ
 one_turn s xs i call reply σ τ l p q (t, S) =
     let h = events (take i xs) in
     let x : Exchange = record { call = call; reply = reply } in
-    let T = take_more_set xs i x l in
     let st = step s h σ S (turn_good s [] (take i xs) (tt, tt) t) call in
     let e : reply ≡ reply_to s h call = p ∙ st.0 in
-    let now-state : State s (after x h) τ = subst⁻¹ (State s (after x h)) q (subst⁻¹ (λ (r : Reply). State s (cond (is_refusal r) h (noted (event_of call) h)) (left_by s.known s.clash σ call)) e st.1) in
-    (subst⁻¹ (InTurn s []) T (turn_more s [] (take i xs) x t e), subst⁻¹ (λ (ys : List Exchange). State s (events ys) τ) T (subst⁻¹ (λ (k : History). State s k τ) (after_append (take i xs) (x ∷ []) []) now-state))
-
-pub same_calls : (xs : List Exchange) (i : ℕ) (d : Exchange) (reply : Reply) → calls_of (set xs i (record { call = (get_or xs i d).call; reply = reply })) ≡ calls_of xs
-same_calls xs i d reply = map-set (λ (x : Exchange). x.call) xs i (record { call = (get_or xs i d).call; reply = reply }) ∙ sym (map-set (λ (x : Exchange). x.call) xs i (get_or xs i d)) ∙ ap calls_of (set-get_or xs i d)
+    let now-state : State s (after x h) τ = subst⁻¹ (State s (after x h)) q (subst⁻¹ (λ (r : Answer). State s (cond (is_err r) h (noted (event_of call) h)) (left_by s.known s.clash σ call)) e st.1) in
+    (one_turn_of (reply_to s) (λ k y. after y k) [] xs i x l e t, subst⁻¹ (λ (k : History). State s k τ) (after_more (λ k y. after y k) [] xs i x l) now-state)
 
 pub store_eq : (σ τ : Store) → τ.check ≡ σ.check → τ.meaning ≡ σ.meaning → τ.rows ≡ σ.rows → τ ≡ σ
 store_eq σ τ a b c =

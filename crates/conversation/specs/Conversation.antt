@@ -1,6 +1,7 @@
 -- A whole conversation with a check, from its start to its end.
-use Rattle.std.specs.Prelude.{◌≡◌, ℕ, ◌<◌, Bool, cond, List, map, length, Ok, Err, Result, ◌==◌, slice_index_or}
+use Rattle.std.specs.Prelude.{◌≡◌, ℕ, ◌<◌, Bool, cond, List, length, Ok, Err, Result, ◌==◌, slice_index_or}
 use Rattle.graph.specs.History.{History, begun, scopes}
+use Rattle.orderings.specs.Exchanges.{calls_of}
 use Rattle.orderings.specs.Meaning.{Meaning}
 use Rattle.orderings.specs.Past.{Means}
 use Rattle.rows.specs.declared.row.Row.{Row}
@@ -9,15 +10,13 @@ use Rattle.trace_check.specs.declared.words.Call.{Call}
 use Rattle.trace_check.specs.declared.words.Counts.{Counts}
 use Rattle.conversation.specs.declared.words.Ending.{Ending}
 use Rattle.conversation.specs.declared.words.Ending.TheVariants.{Verdict, GivenUp}
-use Rattle.conversation.specs.declared.words.Exchange.{Exchange}
+use Rattle.conversation.specs.Exchanges.{Exchange}
 use Rattle.trace_check.specs.declared.words.Refusal.{Refusal}
 use Rattle.conversation.specs.Leaders.{row_of}
 use Rattle.conversation.specs.Replies.{Setting, events, accesses, clashes_found}
 use Rattle.conversation.specs.Theorem.{RepliesRight, Facts}
-use Rattle.trace_check.specs.Calls.{View, start_answer, new_check, counted}
-
-abbrev pub calls_of : List Exchange → List Call
-calls_of xs = map (λ (x : Exchange). x.call) xs
+use Rattle.trace_check.specs.View.{View}
+use Rattle.trace_check.specs.Calls.{start_answer, new_check, counted}
 
 -- the setting of a check that starts on a meaning and rows, under a rule
 abbrev pub setting : ℕ → Meaning → List Row → (ℕ → Bool) → (ℕ → ℕ → Bool) → Setting

@@ -1,3 +1,4 @@
+pub mod Exchanges
 pub mod Leaders
 pub mod Replies
 pub mod Theorem

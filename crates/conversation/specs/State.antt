@@ -4,7 +4,7 @@ use Rattle.graph.specs.History.{History}
 use Rattle.orderings.specs.Past.{Means}
 use Rattle.rows.specs.Rows.{no_row}
 use Rattle.conversation.specs.Leaders.{reached, row_of}
-use Rattle.conversation.specs.declared.words.Exchange.{Exchange}
+use Rattle.conversation.specs.Exchanges.{Exchange}
 use Rattle.conversation.specs.Replies.{Setting, events, accesses, clashes_found}
 use Rattle.conversation.specs.Theorem.{RepliesRight}
 use Rattle.trace_check.specs.Puts.{Store}

@@ -2,10 +2,10 @@
 #![tactic(auto)]
 
 ghost use Rattle.std.specs.Prelude.{◌≡◌, Err};
-ghost use Rattle.trace_check.specs.Calls.{view};
 ghost use Rattle.trace_check.specs.Puts.{store};
 ghost use Rattle.conversation.specs.State.{Ran};
-ghost use Rattle.conversation.specs.Conversation.{calls_of, setting, end_answer, Conversed};
+ghost use Rattle.orderings.specs.Exchanges.{calls_of};
+ghost use Rattle.conversation.specs.Conversation.{setting, end_answer, Conversed};
 
 use orderings::Ordering;
 use rows::Row;
@@ -16,7 +16,7 @@ mod theorem;
 mod words;
 
 pub use theorem::{facts_follow, worked_through};
-pub use words::{Ending, Exchange};
+pub use words::{Ending, Exchange, to_put};
 
 /// Puts each call in turn, and writes the reply beside it.
 fn run<O: Ordering, R: ClashRule>(
@@ -34,24 +34,19 @@ fn run<O: Ordering, R: ClashRule>(
         exchanges.new
         (store check.new (O.Ordering.meaning ordering.new) rows.new) }
 {
-    for i in 0..exchanges.len() {
-        let call = exchanges[i].call;
-        let reply = check.put(ordering, rule, rows, call);
-        exchanges[i] = Exchange { call, reply };
+    for exchange in exchanges.iter_mut() {
+        exchange.reply = check.put(ordering, rule, rows, exchange.call);
     }
 }
 
 /// Takes the verdict, or gives up while a scope besides main is open.
 fn end<O: Ordering>(check: Check, ordering: &O) -> Ending
     ensures { O.Ordering.sound ordering.now →
-        result ≡ end_answer (view check) (O.Ordering.meaning ordering.now) }
+        result ≡ end_answer check (O.Ordering.meaning ordering.now) }
 {
     match check.verdict(ordering) {
         Ok(counts) => Ending::Verdict(counts),
-        Err(back) => {
-            let (_, check) = back;
-            Ending::GivenUp(check.give_up(ordering))
-        }
+        Err((_, check)) => Ending::GivenUp(check.give_up(ordering)),
     }
 }
 
@@ -71,11 +66,7 @@ pub fn converse<O: Ordering, R: ClashRule>(
         Conversed limit (R.ClashRule.known rule.now) (R.ClashRule.clash rule.now) (O.Ordering.meaning ordering.old) (O.Ordering.meaning ordering.new) rows.old rows.new exchanges.old exchanges.new result }
     ensures refused { (e : Refusal) → result ≡ Err e → (ordering.new ≡ ordering.old) × (rows.new ≡ rows.old) × (exchanges.new ≡ exchanges.old) }
 {
-    match Check::start(ordering, rows, limit) {
-        Ok(mut check) => {
-            run(&mut check, ordering, rule, rows, exchanges);
-            Ok(end(check, ordering))
-        }
-        Err(refusal) => Err(refusal),
-    }
+    let mut check = Check::start(ordering, rows, limit)?;
+    run(&mut check, ordering, rule, rows, exchanges);
+    Ok(end(check, ordering))
 }

@@ -9,6 +9,7 @@ use Rattle.orderings.specs.declared.words.Kind.{Kind}
 use Rattle.orderings.specs.declared.words.Kind.TheVariants.{Task, Finish}
 use Rattle.orderings.specs.Meaning.{Meaning, Begun, task_at, a_finish, at, Fall, WellFormed, with_scope, without_innermost, shifted}
 use Rattle.orderings.specs.Past.{kind_of, as_begun, Means}
+use Rattle.orderings.specs.Inquiries.{opens}
 
 at_push : (l : List Begun) (x : Begun) (k : ℕ) → at (l ++ x ∷ []) k ≡ cond (eqb k (length l)) (Some x) (at l k)
 at_push [] x zero = refl
@@ -35,7 +36,7 @@ one_less : (n j b : ℕ) → j ≢ 0 → j + b ≡ n + 1 → (j - 1) + suc b ≡
 one_less n j b ne e = omega arith
 
 module _ (n : ℕ) (h : History) (m : Meaning) (M : Means n h m) where
-  pub means_task : m.left ≢ 0 → Means n (open_task ∷ h) (with_scope Task m)
+  means_task : m.left ≢ 0 → Means n (open_task ∷ h) (with_scope Task m)
   means_task some = record {
     opened = ap (λ (k : ℕ). task k ∷ m.opened) M.count ∙ ap (λ (l : List Scope). task (begun h) ∷ l) M.opened;
     count = let e = length_push m.begun (task_at (before (length m.begun))) in let c = M.count in omega arith;
@@ -47,7 +48,7 @@ module _ (n : ℕ) (h : History) (m : Meaning) (M : Means n h m) where
       go k true e = rw (e, e) (ap (λ (j : ℕ). Some (task_at (before j))) (sym (eqb-true k (begun h) e)))
       go k false e = rw e (M.scope k ∙ as_same h (open_task ∷ h) k (kind_of h k) (rw e))
 
-  pub means_finish : m.left ≢ 0 → Means n (open_finish ∷ h) (with_scope Finish m)
+  means_finish : m.left ≢ 0 → Means n (open_finish ∷ h) (with_scope Finish m)
   means_finish some = record {
     opened = ap (λ (k : ℕ). finish k ∷ m.opened) M.count ∙ ap (λ (l : List Scope). finish (begun h) ∷ l) M.opened;
     count = let e = length_push m.begun a_finish in let c = M.count in omega arith;
@@ -58,6 +59,10 @@ module _ (n : ℕ) (h : History) (m : Meaning) (M : Means n h m) where
       go : (k : ℕ) (b : Bool) → eqb k (begun h) ≡ b → cond (eqb k (begun h)) (Some a_finish) (at m.begun k) ≡ as_begun (open_finish ∷ h) k (cond (eqb k (begun h)) (Some Finish) (kind_of h k))
       go k true e = rw e
       go k false e = rw e (M.scope k ∙ as_same h (open_finish ∷ h) k (kind_of h k) refl)
+
+  pub means_open : (k : Kind) → m.left ≢ 0 → Means n (opens k ∷ h) (with_scope k m)
+  means_open Task = means_task
+  means_open Finish = means_finish
 
   pub means_close : Means n (close ∷ h) (without_innermost m)
   means_close = record {

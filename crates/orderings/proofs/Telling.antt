@@ -3,12 +3,12 @@ use Rattle.std.proofs.Common.{◌≡◌, ℕ, ◌+◌, ◌-◌, List, length, So
 use Rattle.graph.specs.History.{History, Scope, begun, innermost_task}
 use Rattle.orderings.specs.declared.questions.Question.{Question}
 use Rattle.orderings.specs.declared.questions.Question.TheVariants.{WordOf, InnermostTask, OpenCount, KindOf, ScopesBegun, NumbersLeft}
-use Rattle.orderings.specs.declared.questions.Told.TheVariants.{Number, Kind as OfKind}
+use Rattle.orderings.specs.declared.questions.Told.TheVariants.{Word as OfWord, Number, Kind as OfKind}
 use Rattle.orderings.specs.declared.words.Kind.{Kind}
 use Rattle.orderings.specs.declared.words.Kind.TheVariants.{Task, Finish}
 use Rattle.orderings.specs.Meaning.{Meaning, Begun, kind, kind_at, word_of}
 use Rattle.orderings.specs.Past.{kind_of, as_begun, Means}
-use Rattle.orderings.specs.Questions.{telling_word, telling, word_of_past, telling_past}
+use Rattle.orderings.specs.Questions.{ok_as, telling, word_of_past, telling_past}
 
 module _ (n : ℕ) (h : History) (m : Meaning) (M : Means n h m) where
   pub kind_as : (t : ℕ) → kind_at m.begun t ≡ kind_of h t
@@ -23,9 +23,9 @@ module _ (n : ℕ) (h : History) (m : Meaning) (M : Means n h m) where
   left_is = let q = M.left in omega arith
 
   pub telling_as : (q : Question) → telling m q ≡ telling_past n h q
-  telling_as (WordOf t) = ap (λ (o : Option Begun). telling_word (word_of o)) (M.scope t) ∙ go (kind_of h t)
+  telling_as (WordOf t) = ap (λ (o : Option Begun). ok_as OfWord (word_of o)) (M.scope t) ∙ go (kind_of h t)
     where
-      go : (o : Option Kind) → telling_word (word_of (as_begun h t o)) ≡ word_of_past h t o
+      go : (o : Option Kind) → ok_as OfWord (word_of (as_begun h t o)) ≡ word_of_past h t o
       go None = refl
       go (Some Task) = refl
       go (Some Finish) = refl

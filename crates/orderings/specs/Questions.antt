@@ -9,16 +9,16 @@ use Rattle.orderings.specs.declared.words.Fault.{Fault}
 use Rattle.orderings.specs.declared.words.Fault.TheVariants.{NoSuchTask}
 use Rattle.orderings.specs.declared.words.Kind.{Kind}
 use Rattle.orderings.specs.declared.words.Kind.TheVariants.{Task, Finish}
-use Rattle.orderings.specs.declared.words.Word.{Word}
 use Rattle.orderings.specs.Meaning.{Meaning, word, asked, kind_at}
 use Rattle.orderings.specs.Past.{kind_of}
 
-abbrev pub telling_word : Result Word Fault → Result Told Fault
-telling_word (Ok w) = Ok (OfWord w)
-telling_word (Err f) = Err f
+-- what is accepted, as f makes it, and a refusal as it is
+abbrev pub ok_as : {A B E : Type 0} → (A → B) → Result A E → Result B E
+ok_as f (Ok x) = Ok (f x)
+ok_as f (Err e) = Err e
 
 abbrev pub telling : Meaning → Question → Result Told Fault
-telling m (WordOf t) = telling_word (asked m.begun t)
+telling m (WordOf t) = ok_as OfWord (asked m.begun t)
 telling m InnermostTask = Ok (Number (innermost_task m.opened))
 telling m OpenCount = Ok (Number (length m.opened))
 telling m (KindOf n) = Ok (OfKind (kind_at m.begun n))

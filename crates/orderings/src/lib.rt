@@ -2,13 +2,15 @@
 #![tactic(auto)]
 
 mod bags;
+mod exchange;
 mod inquiries;
 mod ordering;
 mod questions;
 mod words;
 
 pub use bags::{Bags, Entry};
+pub use exchange::Exchange;
 pub use inquiries::{Inquiry, Request, Response, inquire, put};
 pub use ordering::Ordering;
 pub use questions::{Question, Told, tell};
-pub use words::{Code, Fault, Kind, Word};
+pub use words::{Fault, Kind, Word};

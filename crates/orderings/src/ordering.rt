@@ -1,7 +1,6 @@
 //! What an ordering is, whatever it is made of.
 ghost use Rattle.std.specs.Prelude.{◌≡◌, ℕ, length, Err};
 ghost use Rattle.graph.specs.History.{innermost_task};
-ghost use Rattle.orderings.specs.declared.words.Kind.TheVariants.{Task, Finish};
 ghost use Rattle.orderings.specs.Meaning.{Meaning, WellFormed, opening, after_open, closing, after_close, asked, kind_at};
 
 use crate::words::{Fault, Kind, Word};
@@ -15,18 +14,14 @@ pub trait Ordering {
 
     ghost meaning: { Self → Meaning };
 
-    fn open_task(&mut self) -> Result<u32, Fault>
+    /// Opens a scope of a kind within the innermost open scope, and gives its number.
+    fn open(&mut self, kind: Kind) -> Result<u32, Fault>
         ensures kept { sound self.old → sound self.new }
         ensures answer { sound self.old → result ≡ opening (meaning self.old) }
-        ensures after { sound self.old → meaning self.new ≡ after_open Task (meaning self.old) }
+        ensures after { sound self.old → meaning self.new ≡ after_open kind (meaning self.old) }
         ensures refused { (f : Fault) → result ≡ Err f → self.new ≡ self.old };
 
-    fn open_finish(&mut self) -> Result<u32, Fault>
-        ensures kept { sound self.old → sound self.new }
-        ensures answer { sound self.old → result ≡ opening (meaning self.old) }
-        ensures after { sound self.old → meaning self.new ≡ after_open Finish (meaning self.old) }
-        ensures refused { (f : Fault) → result ≡ Err f → self.new ≡ self.old };
-
+    /// Closes the innermost open scope, and gives its number.
     fn close(&mut self) -> Result<u32, Fault>
         ensures kept { sound self.old → sound self.new }
         ensures answer { sound self.old → result ≡ closing (meaning self.old) }

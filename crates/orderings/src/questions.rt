@@ -6,7 +6,7 @@ use crate::ordering::Ordering;
 use crate::words::{Fault, Kind, Word};
 
 /// A question to an ordering.
-#[derive(Clone, Copy)]
+#[derive(Clone, Copy, Debug, PartialEq, Eq)]
 pub enum Question {
     /// The word of a task.
     WordOf(u32),
@@ -21,7 +21,7 @@ pub enum Question {
 }
 
 /// What an ordering tells.
-#[derive(Clone, Copy)]
+#[derive(Clone, Copy, Debug, PartialEq, Eq)]
 pub enum Told {
     Word(Word),
     Number(u32),
@@ -38,10 +38,7 @@ pub fn tell<O: Ordering>(ordering: &mut O, question: Question) -> Result<Told, F
     ensures refused { (f : Fault) → result ≡ Err f → ordering.new ≡ ordering.old }
 {
     match question {
-        Question::WordOf(task) => match ordering.ask(task) {
-            Ok(word) => Ok(Told::Word(word)),
-            Err(fault) => Err(fault),
-        },
+        Question::WordOf(task) => ordering.ask(task).map(Told::Word),
         Question::InnermostTask => Ok(Told::Number(ordering.innermost_task())),
         Question::OpenCount => Ok(Told::Number(ordering.open_count())),
         Question::KindOf(number) => Ok(Told::Kind(ordering.kind_of(number))),

@@ -1,59 +1,43 @@
--- Going through the filled slots of a row, and where a class is held.
-use Rattle.std.proofs.Common.{◌≡◌, ℕ, suc, ◌+◌, ◌<◌, ◌≤◌, Bool, true, false, cond, eqb, ◌⊎◌, List, [], ◌∷◌, length, get_or, take, drop, refl, ap, ◌∙◌, inl, inr, arith, get_or-take, le-ltb, lt-ltb}
-use Rattle.std.proofs.lemmas.List.{at_drop_all, at_drop_more, length-take}
+-- What is looked up among the filled slots, in the library's words, and what a whole row answers.
+use Rattle.std.proofs.Common.{◌≡◌, ℕ, ◌≤◌, Bool, true, cond, not, eqb, ltb, List, [], ◌∷◌, length, Ok, Err, refl, arith}
+use Rattle.std.proofs.lemmas.Bool.Decides.{nat_tests}
+use Rattle.std.proofs.lemmas.List.{length-take}
+use Rattle.std.proofs.lemmas.List.Sums.{prefix_len-le-length}
+use Rattle.std.specs.List.{list_any, find}
+use Rattle.std.specs.Option.{option_map}
+use Rattle.orderings.specs.Meaning.{Meaning}
 use Rattle.rows.specs.declared.row.Row.{Row}
 use Rattle.rows.specs.declared.row.Slot.{Slot}
-use Rattle.rows.specs.Slots.{holds_class, has_room, index_of}
-use Rattle.rows.specs.Rows.{no_slot, filled}
+use Rattle.rows.specs.declared.words.RowFault.TheVariants.{Full}
+use Rattle.rows.specs.Slots.{holds_class, has_room, index_of, led_by, leader_in, first_clash}
+use Rattle.rows.specs.Rows.{filled, is_unordered_in, slots_whole, row_answer}
 
-module _ {Y : Type 0} (F : List Slot → Y) (ss : List Slot) (n i : ℕ) where
-  pub one_on : i < n → n ≤ length ss → F (drop i (take n ss)) ≡ F (get_or ss i no_slot ∷ drop (i + 1) (take n ss))
-  one_on lt le =
-      let h : i < length (take n ss) = simp length-take (omega arith) in
-      at_drop_more F (take n ss) i no_slot h ∙ ap (λ (s : Slot). F (s ∷ drop (i + 1) (take n ss))) (get_or-take n ss i no_slot lt)
+pub held_as : (c : ℕ) (l : List Slot) → holds_class c l ≡ list_any (λ s. eqb s.class c) l
+held_as c [] = refl
+held_as c (s ∷ l) = let ih = held_as c l in grind (arith, nat_tests)
 
-  pub at_end : n ≤ i → F (drop i (take n ss)) ≡ F []
-  at_end le =
-      let h : length (take n ss) ≤ i = simp length-take (omega arith) in
-      at_drop_all F (take n ss) i h
-
-pub filled_le : (row : Row) → row.count ≤ 8 → length (filled row) ≤ 8
-filled_le row h = simp length-take (omega arith)
+pub leader_as : (c : ℕ) (l : List Slot) → leader_in l c ≡ option_map led_by (find (λ s. eqb s.class c) l)
+leader_as c [] = refl
+leader_as c (s ∷ l) = let ih = leader_as c l in grind (arith, nat_tests)
 
 pub index_le : (c : ℕ) (l : List Slot) → index_of c l ≤ length l
-index_le c [] = omega arith
-index_le c (s ∷ l) = go (eqb s.class c) (index_le c l)
-  where
-    go : (b : Bool) → index_of c l ≤ length l → cond b 0 (suc (index_of c l)) ≤ suc (length l)
-    go true h = omega arith
-    go false h = omega arith
+index_le c l = prefix_len-le-length (λ (s : Slot). not (eqb s.class c)) l
 
--- a class is held, below the end, or it is not, and would come at the end
-abbrev HeldOrNot : ℕ → List Slot → Type 0
-HeldOrNot c l = ((holds_class c l ≡ true) × (index_of c l < length l)) ⊎ ((holds_class c l ≡ false) × (index_of c l ≡ length l))
+-- a class is held where its place is below the end
+held : (c : ℕ) (l : List Slot) → holds_class c l ≡ ltb (index_of c l) (length l)
+held c [] = refl
+held c (s ∷ l) = let ih = held c l in grind (arith, nat_tests)
 
-held_or_not : (c : ℕ) (l : List Slot) → HeldOrNot c l
-held_or_not c [] = inr (refl, refl)
-held_or_not c (s ∷ l) = go (eqb s.class c) (held_or_not c l)
-  where
-    go : (b : Bool) → HeldOrNot c l → ((cond b true (holds_class c l) ≡ true) × (cond b 0 (suc (index_of c l)) < suc (length l))) ⊎ ((cond b true (holds_class c l) ≡ false) × (cond b 0 (suc (index_of c l)) ≡ suc (length l)))
-    go true h = inl (refl, omega arith)
-    go false (inl h) = inl (h.0, omega arith)
-    go false (inr h) = inr (h.0, omega arith)
+room_at : (c : ℕ) (l : List Slot) → length l ≤ 8 → has_room c l ≡ ltb (index_of c l) 8
+room_at c l h =
+    let e = held c l in
+    let i = index_le c l in
+    grind (arith, nat_tests)
 
-pub room_full : (c : ℕ) (l : List Slot) → index_of c l ≡ 8 → length l ≤ 8 → has_room c l ≡ false
-room_full c l e h = go (held_or_not c l)
-  where
-    go : HeldOrNot c l → has_room c l ≡ false
-    go (inl v) = absurd (omega arith)
-    go (inr v) = rw v.0 (le-ltb (length l) 8 (omega arith))
-
-pub room_left : (c : ℕ) (l : List Slot) → (index_of c l ≡ 8 → ⊥) → length l ≤ 8 → has_room c l ≡ true
-room_left c l e h = go (held_or_not c l)
-  where
-    less : (k : ℕ) → k ≤ 8 → (k ≡ 8 → ⊥) → k < 8
-    less k a b = omega arith
-
-    go : HeldOrNot c l → has_room c l ≡ true
-    go (inl v) = rw v.0
-    go (inr v) = rw v.0 (lt-ltb (length l) 8 (less (length l) h (λ q. e (v.1 ∙ q))))
+-- what a whole row answers, by the place of the class
+module _ (known : ℕ → Bool) (clash : ℕ → ℕ → Bool) (m : Meaning) (n c : ℕ) (row : Row) (l : List Slot) where
+  pub answered : row.count ≤ 8 → l ≡ filled row → true ≡ slots_whole known m.begun n l → row_answer known clash m n c row ≡ cond (ltb (index_of c l) 8) (Ok (first_clash clash (is_unordered_in m.begun) c n l)) (Err Full)
+  answered h e w =
+      let short : length (filled row) ≤ 8 = simp length-take (omega arith) in
+      let room = room_at c (filled row) short in
+      grind (arith, nat_tests)

@@ -9,7 +9,6 @@ use Rattle.orderings.specs.declared.words.Word.TheVariants.{Before, Unordered}
 use Rattle.orderings.specs.Meaning.{Meaning, Begun, asked, kind_at}
 use Rattle.rows.specs.declared.row.Row.{Row}
 use Rattle.rows.specs.declared.row.Slot.{Slot}
-use Rattle.rows.specs.declared.words.Finding.{Finding}
 use Rattle.rows.specs.declared.words.Leader.{Leader}
 use Rattle.rows.specs.declared.words.RowFault.{RowFault}
 use Rattle.rows.specs.declared.words.RowFault.TheVariants.{Full, Damaged}
@@ -66,14 +65,14 @@ abbrev pub row_whole : (ℕ → Bool) → List Begun → ℕ → Row → Bool
 row_whole known bs n row = nat_le row.count 8 && slots_whole known bs n (filled row)
 
 -- What event n, an access of class c, is answered: a damaged row is refused, then a row that holds eight other classes.
-abbrev pub row_answer : (ℕ → Bool) → (ℕ → ℕ → Bool) → Meaning → ℕ → ℕ → Row → Result Finding RowFault
+abbrev pub row_answer : (ℕ → Bool) → (ℕ → ℕ → Bool) → Meaning → ℕ → ℕ → Row → Result (Option (ℕ × ℕ)) RowFault
 row_answer known clash m n c row =
     cond (row_whole known m.begun n row)
     (cond (has_room c (filled row)) (Ok (first_clash clash (is_unordered_in m.begun) c n (filled row))) (Err Full))
     (Err Damaged)
 
 -- and what it leaves: a refusal nothing, an accepted access the leader of its class settled
-abbrev pub row_after : Meaning → ℕ → ℕ → Row → Result Finding RowFault → Row
+abbrev pub row_after : Meaning → ℕ → ℕ → Row → Result (Option (ℕ × ℕ)) RowFault → Row
 row_after m n c row (Ok f) =
     refilled row (settled (is_unordered_in m.begun) (record { class = c; event = n; task = innermost_task m.opened }) (filled row))
 row_after m n c row (Err e) = row

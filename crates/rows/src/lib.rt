@@ -6,4 +6,4 @@ mod row;
 mod words;
 
 pub use row::{Row, Slot};
-pub use words::{Finding, Leader, RowFault};
+pub use words::{Leader, RowFault};

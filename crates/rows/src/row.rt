@@ -1,7 +1,7 @@
 //! The row of a record.
 
 /// A filled slot holds the leader of a class: an access by its class, its event number and its task.
-#[derive(Clone, Copy)]
+#[derive(Clone, Copy, Debug, PartialEq, Eq)]
 pub struct Slot {
     pub class: u32,
     pub event: u32,
@@ -9,7 +9,8 @@ pub struct Slot {
 }
 
 /// A row holds the leaders at its record, one for each class, in the order in which the classes reached it.
-#[derive(Clone, Copy)]
+// A caller lends its rows, and may hand in any count: so a count beside eight slots, and above 8 a refusal of its own.
+#[derive(Clone, Copy, Debug, PartialEq, Eq)]
 pub struct Row {
     pub count: usize,
     pub slots: [Slot; 8],

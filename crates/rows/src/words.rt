@@ -1,25 +1,21 @@
 //! What a row answers.
-ghost use Rattle.std.specs.Prelude.{◌≡◌};
+ghost use Rattle.std.specs.Prelude.{◌≡◌, Some};
 ghost use Rattle.rows.specs.Numbers.{fault_code};
+ghost use Rattle.rows.specs.Texts.{fault_text};
 
-use orderings::Code;
-
-/// What an access finds: nothing, or a clash with an earlier access. A clash carries the event numbers of the two, the earlier first.
-#[derive(Clone, Copy)]
-pub enum Finding {
-    Clear,
-    Clash((u32, u32)),
-}
+use refusals::{Code, Layer};
+use std::error::Error;
+use std::fmt;
 
 /// The event number and the task of the access that leads a class.
-#[derive(Clone, Copy)]
+#[derive(Clone, Copy, Debug, PartialEq, Eq)]
 pub struct Leader {
     pub event: u32,
     pub task: u32,
 }
 
 /// Why a row refuses an access.
-#[derive(Clone, Copy)]
+#[derive(Clone, Copy, Debug, PartialEq, Eq)]
 pub enum RowFault {
     /// The row holds eight other classes.
     Full,
@@ -35,6 +31,22 @@ impl RowFault {
             RowFault::Full => 24,
             RowFault::Damaged => 25,
         };
-        Code { number, layer: 3 }
+        Code {
+            number,
+            layer: Layer::Check,
+        }
     }
 }
+
+impl fmt::Display for RowFault {
+    ghost output = { λ fault. Some (fault_text fault) };
+
+    fn fmt<W: fmt::Write>(&self, f: &mut fmt::Formatter<W>) -> fmt::Result {
+        f.write_str(match self {
+            RowFault::Full => "the record holds eight other classes",
+            RowFault::Damaged => "the record's row is damaged",
+        })
+    }
+}
+
+impl Error for RowFault {}

@@ -3,6 +3,7 @@ pub mod Fields
 pub mod Rules
 pub mod Classes
 pub mod Numbers
+pub mod Names
 pub mod Any
 pub mod Words
 pub mod Clashes

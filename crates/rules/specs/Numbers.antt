@@ -1,5 +1,5 @@
 -- The numbers of the rules.
-use Rattle.std.specs.Prelude.{ℕ, cond, Ok, Err, Result, ◌==◌}
+use Rattle.std.specs.Prelude.{◌≡◌, ◌≢◌, ℕ, cond, Ok, Err, Result, MatchResult, ◌==◌}
 use Rattle.rules.specs.declared.Rule.{Rule}
 use Rattle.rules.specs.declared.Rule.TheVariants.{Plain, Depot, Field}
 use Rattle.rules.specs.declared.UnknownRule.{UnknownRule}
@@ -17,3 +17,10 @@ rule_of n =
     (cond (n == 1) (Ok (Depot (record {})))
     (cond (n == 2) (Ok (Field (record {})))
     (Err (record {}))))
+
+-- The number finds its rule: the one that has it, or none where no rule has it.
+pub record FoundBy (n : ℕ) (answer : Result Rule UnknownRule) : Type 0 where
+  pub found : answer ≡ rule_of n
+  pub numbered : MatchResult answer
+      (λ rule. number_of rule ≡ n)
+      (λ _. (rule : Rule) → number_of rule ≢ n)

@@ -1,15 +1,18 @@
 //! Clash rules: which classes of access a rule knows, and which two of them clash.
 #![tactic(auto)]
 
-ghost use Rattle.std.specs.Prelude.{◌≡◌, ℕ, Bool, MatchResult, ◌≢◌};
+ghost use Rattle.std.specs.Prelude.{◌≡◌, ℕ, Bool, Some, MatchResult, ◌≢◌};
 ghost use Rattle.rules.specs.Alike.{Alike};
 ghost use Rattle.rules.specs.Fields.{bit, writes_field, touches_field};
 ghost use Rattle.rules.specs.Rules.{plain, depot, field};
 ghost use Rattle.rules.specs.Classes.{plain_knows, depot_knows, field_knows};
-ghost use Rattle.rules.specs.Numbers.{number_of, rule_of};
+ghost use Rattle.rules.specs.Numbers.{number_of, FoundBy};
+ghost use Rattle.rules.specs.Names.{rule_name};
 ghost use Rattle.rules.specs.Any.{known_under, clash_under};
 ghost use Rattle.rules.specs.Words.{RulesInWords};
 ghost use Rattle.rules.specs.Clashes.{plain_alike, depot_alike, field_alike, any_alike};
+
+use std::fmt;
 
 #[cfg(test)]
 mod tests;
@@ -47,7 +50,7 @@ pub trait ClashRule {
 }
 
 /// Accesses read or write. Two clash unless both read.
-#[derive(Clone, Copy)]
+#[derive(Clone, Copy, Debug, PartialEq, Eq)]
 pub struct Plain {}
 
 impl Plain {
@@ -77,7 +80,7 @@ impl ClashRule for Plain {
 }
 
 /// Accesses read, write or add. Two clash unless both read or both add.
-#[derive(Clone, Copy)]
+#[derive(Clone, Copy, Debug, PartialEq, Eq)]
 pub struct Depot {}
 
 impl Depot {
@@ -110,7 +113,7 @@ impl ClashRule for Depot {
 
 /// A class is a byte: bits 0 to 3 name the fields read, bits 4 to 7 the same fields written.
 /// Two clash if one writes a field that the other reads or writes.
-#[derive(Clone, Copy)]
+#[derive(Clone, Copy, Debug, PartialEq, Eq)]
 pub struct Field {}
 
 impl Field {
@@ -155,7 +158,7 @@ fn touched(class: u32) -> u32
 }
 
 /// Any of the three rules.
-#[derive(Clone, Copy)]
+#[derive(Clone, Copy, Debug, PartialEq, Eq)]
 pub enum Rule {
     Plain(Plain),
     Depot(Depot),
@@ -163,23 +166,35 @@ pub enum Rule {
 }
 
 /// No rule has the number.
-#[derive(Clone, Copy)]
+#[derive(Clone, Copy, Debug, PartialEq, Eq)]
 pub struct UnknownRule {}
 
-impl Rule {
-    /// The rule that has the number.
-    pub fn of_number(number: u32) -> Result<Rule, UnknownRule>
-        ensures found { result ≡ rule_of number }
-        ensures numbered { MatchResult result
-            (λ rule. number_of rule ≡ number)
-            (λ _. (rule : Rule) → number_of rule ≢ number) }
-    {
+/// The rule that has the number.
+impl TryFrom<u32> for Rule {
+    type Error = UnknownRule;
+
+    ghost try_from_gives = { FoundBy };
+
+    fn try_from(number: u32) -> Result<Self, UnknownRule> {
         match number {
             Plain::NUMBER => Ok(Rule::Plain(Plain {})),
             Depot::NUMBER => Ok(Rule::Depot(Depot {})),
             Field::NUMBER => Ok(Rule::Field(Field {})),
             _ => Err(UnknownRule {}),
         }
+    }
+}
+
+/// The name of the rule.
+impl fmt::Display for Rule {
+    ghost output = { λ rule. Some (rule_name rule) };
+
+    fn fmt<W: fmt::Write>(&self, f: &mut fmt::Formatter<W>) -> fmt::Result {
+        f.write_str(match self {
+            Rule::Plain(_) => "plain",
+            Rule::Depot(_) => "depot",
+            Rule::Field(_) => "field",
+        })
     }
 }
 

@@ -1,5 +1,4 @@
 use super::*;
-use std::test::Fail;
 
 #[test]
 fn plain_lets_two_reads_pass(rt: HostRuntime) {
@@ -38,15 +37,11 @@ fn known_classes_end_at_the_edges(rt: HostRuntime) {
 }
 
 #[test]
-fn rules_are_found_by_number(rt: HostRuntime) -> Result<(), Fail> {
+fn rules_are_found_by_number(rt: HostRuntime) {
     for number in 0..3 {
-        match Rule::of_number(number) {
-            Ok(rule) => assert!(rt; rule.rule_number() == number),
-            Err(_) => return Err(Fail::new("a rule is missing")),
-        }
+        assert!(rt; Rule::try_from(number).is_ok_and(|rule| rule.rule_number() == number));
     }
-    assert!(rt; Rule::of_number(3).is_err());
-    Ok(())
+    assert_eq!(rt; Rule::try_from(3), Err(UnknownRule {}));
 }
 
 #[test]

@@ -1,15 +1,18 @@
 //! What is put to a check, and what it answers.
-ghost use Rattle.std.specs.Prelude.{◌≡◌};
-ghost use Rattle.trace_check.specs.Numbers.{refusal_code};
+ghost use Rattle.std.specs.Prelude.{◌≡◌, Some};
+ghost use Rattle.trace_check.specs.Numbers.{refusal_code, refusal_text};
+ghost use Rattle.trace_check.specs.declared.words.Refusal.TheVariants.{Row as RowRefuses, Order};
 
-use orderings::{Code, Fault, Question, Told};
-use rows::{Finding, RowFault};
+use orderings::{Fault, Kind, Question, Told};
+use refusals::{Code, Layer};
+use rows::RowFault;
+use std::error::Error;
+use std::fmt;
 
 /// What is put to a check.
-#[derive(Clone, Copy)]
+#[derive(Clone, Copy, Debug, PartialEq, Eq)]
 pub enum Call {
-    OpenTask,
-    OpenFinish,
+    Open(Kind),
     Close,
     /// An access of a class to a record.
     Access(u32, u32),
@@ -18,7 +21,7 @@ pub enum Call {
 }
 
 /// Why a check refuses a call.
-#[derive(Clone, Copy)]
+#[derive(Clone, Copy, Debug, PartialEq, Eq)]
 pub enum Refusal {
     /// The record is not below the number of rows.
     NoSuchRecord,
@@ -52,26 +55,63 @@ impl Refusal {
             Refusal::Row(fault) => return fault.code(),
             Refusal::Order(fault) => return fault.code(),
         };
-        Code { number, layer: 3 }
+        Code {
+            number,
+            layer: Layer::Check,
+        }
     }
 }
 
-/// What a call is answered.
-#[derive(Clone, Copy)]
+impl From<RowFault> for Refusal {
+    ghost from_gives = { λ fault refusal. refusal ≡ RowRefuses fault };
+
+    fn from(fault: RowFault) -> Refusal {
+        Refusal::Row(fault)
+    }
+}
+
+impl From<Fault> for Refusal {
+    ghost from_gives = { λ fault refusal. refusal ≡ Order fault };
+
+    fn from(fault: Fault) -> Refusal {
+        Refusal::Order(fault)
+    }
+}
+
+impl fmt::Display for Refusal {
+    ghost output = { λ refusal. Some (refusal_text refusal) };
+
+    fn fmt<W: fmt::Write>(&self, f: &mut fmt::Formatter<W>) -> fmt::Result {
+        match self {
+            Refusal::NoSuchRecord => f.write_str("there is no such record"),
+            Refusal::UnknownClass => f.write_str("the rule does not know the class"),
+            Refusal::BadStart => f.write_str("the check cannot start so"),
+            Refusal::LimitReached => f.write_str("there are as many events as the limit"),
+            Refusal::ScopeOpen => f.write_str("a scope besides main is open"),
+            Refusal::AlreadyBegun => f.write_str("the ordering has begun more than main"),
+            Refusal::Row(fault) => write!(f, "{fault}"),
+            Refusal::Order(fault) => write!(f, "{fault}"),
+        }
+    }
+}
+
+impl Error for Refusal {}
+
+/// What a call that is not refused is answered.
+#[derive(Clone, Copy, Debug, PartialEq, Eq)]
 pub enum Reply {
     /// The number of the scope opened.
     Opened(u32),
     /// The number of the scope closed.
     Closed(u32),
-    /// What an access found.
-    Found(Finding),
+    /// What an access found: none, or a clash by the event numbers of the two, the earlier first.
+    Found(Option<(u32, u32)>),
     /// What the ordering told.
     Told(Told),
-    Refused(Refusal),
 }
 
 /// What a verdict tells: accesses, accesses that found a clash, and scopes begun, main counted.
-#[derive(Clone, Copy)]
+#[derive(Clone, Copy, Debug, PartialEq, Eq)]
 pub struct Counts {
     pub accesses: u32,
     pub clashes: u32,

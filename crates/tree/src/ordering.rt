@@ -12,12 +12,8 @@ impl<'t> Ordering for Tree<'t> {
 
     ghost formed = { λ x _. formed_tree x };
 
-    fn open_task(&mut self) -> Result<u32, Fault> {
-        self.open_scope(Kind::Task)
-    }
-
-    fn open_finish(&mut self) -> Result<u32, Fault> {
-        self.open_scope(Kind::Finish)
+    fn open(&mut self, kind: Kind) -> Result<u32, Fault> {
+        self.open_scope(kind)
     }
 
     fn close(&mut self) -> Result<u32, Fault> {
