@@ -16,13 +16,12 @@ fn is_single(rt: &impl Abort, text: &[u8], rule: u32, action: Action) -> Result<
     Ok(())
 }
 
-/// Why a text is refused, if it is.
-fn fault(text: &[u8]) -> Option<Fault> {
-    read(text, &mut [Action::Close; 16]).err()
+fn outcome(text: &[u8]) -> Result<Plan, Fault> {
+    read(text, &mut [Action::Close; 16])
 }
 
-fn misread(position: usize, reason: Reason) -> Option<Fault> {
-    Some(Fault::Misread(Misread { position, reason }))
+fn misread(position: usize, reason: Reason) -> Result<Plan, Fault> {
+    Err(Fault::Misread(Misread { position, reason }))
 }
 
 #[test]
@@ -73,44 +72,44 @@ fn actions_are_parted_by_anything_or_nothing(rt: HostRuntime) -> Result<(), Fail
 
 #[test]
 fn what_is_no_action_is_misread(rt: HostRuntime) {
-    assert_eq!(rt; fault(b"x"), misread(1, Reason::NoAction));
-    assert_eq!(rt; fault(b"T t"), misread(3, Reason::NoAction));
+    assert_eq!(rt; outcome(b"x"), misread(1, Reason::NoAction));
+    assert_eq!(rt; outcome(b"T t"), misread(3, Reason::NoAction));
     assert_eq!(rt;
-        fault(b"T plain"),
+        outcome(b"T plain"),
         misread(3, Reason::NoAction),
         "a rule is named first only"
     );
-    assert_eq!(rt; fault(b"dep T"), misread(1, Reason::NoAction));
+    assert_eq!(rt; outcome(b"dep T"), misread(1, Reason::NoAction));
 }
 
 #[test]
 fn numbers_are_misread(rt: HostRuntime) {
     assert_eq!(rt;
-        fault(b"T r"),
+        outcome(b"T r"),
         misread(4, Reason::NoNumber),
         "behind the last character"
     );
-    assert_eq!(rt; fault(b"r w5"), misread(2, Reason::NoNumber));
-    assert_eq!(rt; fault(b"?-1"), misread(2, Reason::NoNumber));
-    assert_eq!(rt; fault(b"r4294967296"), misread(2, Reason::TooLarge));
-    assert_eq!(rt; fault(b"r99999999999999"), misread(2, Reason::TooLarge));
+    assert_eq!(rt; outcome(b"r w5"), misread(2, Reason::NoNumber));
+    assert_eq!(rt; outcome(b"?-1"), misread(2, Reason::NoNumber));
+    assert_eq!(rt; outcome(b"r4294967296"), misread(2, Reason::TooLarge));
+    assert_eq!(rt; outcome(b"r99999999999999"), misread(2, Reason::TooLarge));
 }
 
 #[test]
 fn classes_are_misread(rt: HostRuntime) {
-    assert_eq!(rt; fault(b"1@3"), misread(2, Reason::NoDigit));
+    assert_eq!(rt; outcome(b"1@3"), misread(2, Reason::NoDigit));
     assert_eq!(rt;
-        fault(b"1a@3"),
+        outcome(b"1a@3"),
         misread(2, Reason::NoDigit),
         "digits are capitals"
     );
-    assert_eq!(rt; fault(b"10 3"), misread(3, Reason::NoAt));
-    assert_eq!(rt; fault(b"100@3"), misread(3, Reason::NoAt));
-    assert_eq!(rt; fault(b"10@"), misread(4, Reason::NoNumber));
+    assert_eq!(rt; outcome(b"10 3"), misread(3, Reason::NoAt));
+    assert_eq!(rt; outcome(b"100@3"), misread(3, Reason::NoAt));
+    assert_eq!(rt; outcome(b"10@"), misread(4, Reason::NoNumber));
 }
 
 #[test]
 fn each_character_wants_a_place(rt: HostRuntime) {
     let mut actions = [Action::Close; 4];
-    assert_eq!(rt; read(b"plain", &mut actions).err(), Some(Fault::NoRoom));
+    assert_eq!(rt; read(b"plain", &mut actions), Err(Fault::NoRoom));
 }

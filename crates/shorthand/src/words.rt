@@ -20,7 +20,7 @@ pub enum Action {
 }
 
 /// What was read: the rule, and how many actions.
-#[derive(Clone, Copy)]
+#[derive(Clone, Copy, Debug, PartialEq, Eq)]
 pub struct Plan {
     pub rule: Rule,
     pub count: usize,
