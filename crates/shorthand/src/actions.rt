@@ -1,5 +1,5 @@
 //! Actions in a text.
-ghost use Rattle.std.specs.Prelude.{◌≡◌, ◌<◌, ◌+◌, length, drop, slice_index};
+ghost use Rattle.std.specs.Prelude.{◌≡◌, ◌<◌, length};
 ghost use Rattle.shorthand.specs.declared.words.Action.TheVariants.{Access};
 ghost use Rattle.shorthand.specs.Numbers.{number_at};
 ghost use Rattle.shorthand.specs.Actions.{hex, acting, is_class, class_at, action_at};

@@ -1,5 +1,5 @@
 //! A text that is read from the front on.
-ghost use Rattle.std.specs.Prelude.{◌≡◌, ◌+◌, ◌<◌, ◌≤◌, IsSome, is_some, if◌then◌else◌, nat_eq, length, slice_get, slice_index};
+ghost use Rattle.std.specs.Prelude.{◌≡◌, ◌+◌, ◌<◌, ◌≤◌, IsSome, is_some, if◌then◌else◌, nat_eq, length};
 ghost use Rattle.std.specs.List.{starts_with};
 
 use crate::words::{Misread, Reason};
@@ -14,7 +14,7 @@ pub(crate) struct Reader<'t> {
 
 impl<'t> Reader<'t> {
     ghost use Rattle.shorthand.specs.Words.{wrong};
-    ghost use Rattle.shorthand.specs.Reader.{left, StandsAt};
+    ghost use Rattle.shorthand.specs.Reader.{left, first, StandsAt};
 
     pub(crate) fn new(text: &'t [u8]) -> Self
         ensures text { result.text.now ≡ text.now }
@@ -43,7 +43,7 @@ impl<'t> Reader<'t> {
     /// The value of the next character, which is read if it has one.
     pub(crate) fn next_as<T, F: FnOnce(u8) -> Option<T>>(&mut self, value: F) -> Option<T>
         requires { F.IsAlwaysCallable value }
-        ensures value { self.old.at < length self.old.text.now → F.post value (slice_index self.old.text.now self.old.at) result }
+        ensures value { self.old.at < length self.old.text.now → F.post value (first self.old) result }
         ensures within { IsSome result → self.old.at < length self.old.text.now }
         ensures moved { StandsAt self.old self.new (self.old.at + (if is_some result then 1 else 0)) }
     {

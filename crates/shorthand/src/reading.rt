@@ -9,6 +9,7 @@ use crate::reader::Reader;
 use crate::words::{Action, Fault, Misread, Plan};
 use rules::{Depot, Field, Plain, Rule};
 
+/// Whether the character is a blank. A form feed, which `is_ascii_whitespace` takes too, is none.
 fn is_blank(c: u8) -> bool
     ensures { result ≡ is_blank c }
 {

@@ -20,6 +20,7 @@ pub enum Action {
 }
 
 /// What was read: the rule, and how many actions.
+// A count, no slice: were a part of the places handed back, what they hold would have to be proved by hand, here and at each call.
 #[derive(Clone, Copy, Debug, PartialEq, Eq)]
 pub struct Plan {
     pub rule: Rule,
