@@ -1,5 +1,5 @@
 //! Main's entry and the caller's table, and the forest of bags in them.
-ghost use Rattle.std.specs.Prelude.{◌≡◌, ◌+◌, ◌*◌, ◌<◌, ◌≤◌, length};
+ghost use Rattle.std.specs.Prelude.{◌≡◌, ◌/◌, ◌<◌, ◌≤◌, length};
 ghost use Rattle.orderings.specs.Forest.{winner};
 ghost use Rattle.orderings.specs.Store.{entries, entry_at, frames, contents, forest, joined, poured, poured_by, Linkable};
 ghost use Rattle.orderings.specs.Sound.{Closable};
@@ -56,37 +56,21 @@ impl Store<'_> {
         a
     }
 
-    /// Pours what lies under the root x into the S bag of scope s.
-    pub(crate) fn pour_serial(&mut self, s: u32, x: u32)
-        requires s_in_bounds { (s ≤ length self.old.table.now) × ((s < 65536) × ((0 < x) × (x ≤ length self.old.table.now))) }
-        requires linkable { Linkable (contents (entries self.old)) (2 * s) (length self.old.table.now) }
-        ensures bags { contents (entries self.new) ≡ poured (contents (entries self.old)) (2 * s) x }
+    /// Pours what lies under the root x into a bag.
+    pub(crate) fn pour(&mut self, bag: u32, x: u32)
+        requires in_bounds { (bag / 2 ≤ length self.old.table.now) × ((0 < x) × (x ≤ length self.old.table.now)) }
+        requires linkable { Linkable (contents (entries self.old)) bag (length self.old.table.now) }
+        ensures bags { contents (entries self.new) ≡ poured (contents (entries self.old)) bag x }
         ensures scopes { frames (entries self.new) ≡ frames (entries self.old) }
         ensures size { length self.new.table.now ≡ length self.old.table.now }
     {
-        let root = self.link(self.entry(s).serial, x);
-        self.table[root as usize - 1].bag = 2 * s;
-        if s == 0 {
-            self.main.serial = root;
+        let scope = bag / 2;
+        let root = self.link(self.entry(scope).head(bag), x);
+        self.table[root as usize - 1].bag = bag;
+        if scope == 0 {
+            self.main.set_head(bag, root);
         } else {
-            self.table[s as usize - 1].serial = root;
-        }
-    }
-
-    /// Pours what lies under the root x into the P bag of scope s.
-    pub(crate) fn pour_parallel(&mut self, s: u32, x: u32)
-        requires s_in_bounds { (s ≤ length self.old.table.now) × ((s < 65536) × ((0 < x) × (x ≤ length self.old.table.now))) }
-        requires linkable { Linkable (contents (entries self.old)) (2 * s + 1) (length self.old.table.now) }
-        ensures bags { contents (entries self.new) ≡ poured (contents (entries self.old)) (2 * s + 1) x }
-        ensures scopes { frames (entries self.new) ≡ frames (entries self.old) }
-        ensures size { length self.new.table.now ≡ length self.old.table.now }
-    {
-        let root = self.link(self.entry(s).parallel, x);
-        self.table[root as usize - 1].bag = 2 * s + 1;
-        if s == 0 {
-            self.main.parallel = root;
-        } else {
-            self.table[s as usize - 1].parallel = root;
+            self.table[scope as usize - 1].set_head(bag, root);
         }
     }
 
@@ -101,12 +85,12 @@ impl Store<'_> {
         match scope.kind {
             Kind::Task => {
                 let root = self.link(scope.serial, scope.parallel);
-                self.pour_parallel(scope.outward, root);
+                self.pour(2 * scope.outward + 1, root);
             }
             Kind::Finish => {
                 if scope.parallel != 0 {
                     let task = self.entry(scope.outward).within;
-                    self.pour_serial(task, scope.parallel);
+                    self.pour(2 * task, scope.parallel);
                 }
             }
         }

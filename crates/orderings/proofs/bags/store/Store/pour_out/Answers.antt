@@ -29,8 +29,27 @@ link-root-requires c =
     let parallel-in = parallel.inside in
     record { a_in_bounds = (omega arith, omega arith); a_bound = λ p. subst (λ (x : ℕ). (forest es).rank x < 255) (sym a) (serial.low (omega arith)) }
 
-pub pour_parallel-requires : goal.pour_parallel-requires
-pour_parallel-requires c =
+pub overflow_mul-scope : goal.overflow_mul-scope
+overflow_mul-scope c =
+    let out = ap (λ (x : Entry). x.outward) c.entry-scope.ensures in
+    let outer = outer_inside _ _ _ c.args.s c.requires in
+    omega arith
+
+pub overflow_add-scope : goal.overflow_add-scope
+overflow_add-scope c =
+    let out = ap (λ (x : Entry). x.outward) c.entry-scope.ensures in
+    let outer = outer_inside _ _ _ c.args.s c.requires in
+    omega arith
+
+pub overflow_mul-task : goal.overflow_mul-task
+overflow_mul-task c =
+    let es : List Entry = entries c.args.self.now in
+    let within = ap (λ (x : Entry). x.within) c.entry-task.ensures ∙ ap (frames es).within (ap (λ (x : Entry). x.outward) c.entry-scope.ensures) in
+    let task = task_inside _ _ _ c.args.s c.requires in
+    omega arith
+
+pub pour-requires : goal.pour-requires
+pour-requires c =
     let es : List Entry = entries c.args.self.now in
     let s = c.args.s in
     let size = length c.args.self.now.table.now in
@@ -42,12 +61,12 @@ pour_parallel-requires c =
     let outer = outer_inside (frames es) (contents es) size s c.requires in
     let own = own_root_inside (frames es) (contents es) size s c.requires in
     record {
-      s_in_bounds = (omega arith, (omega arith, (omega arith, omega arith)));
+      in_bounds = (omega arith, (omega arith, omega arith));
       linkable = linkable_same _ _ _ _ _ _ (c.link-root.ensures.bags ∙ (λ j. joined (contents es) (a j) (b j))) (ap (λ (x : ℕ). 2 * x + 1) out) same (outer_linkable (frames es) (contents es) size s c.requires);
     }
 
-pub pour_serial-requires : goal.pour_serial-requires
-pour_serial-requires c =
+pub pour-requires-then-scope-ne0 : goal.pour-requires-then-scope-ne0
+pour-requires-then-scope-ne0 c =
     let es : List Entry = entries c.args.self.now in
     let s = c.args.s in
     let size = length c.args.self.now.table.now in
@@ -57,7 +76,7 @@ pour_serial-requires c =
     let task = task_inside (frames es) (contents es) size s c.requires in
     let parallel = (parallel_linkable (frames es) (contents es) size s c.requires).inside in
     record {
-      s_in_bounds = (omega arith, (omega arith, (omega arith, omega arith)));
+      in_bounds = (omega arith, (omega arith, omega arith));
       linkable = linkable_same _ _ _ _ _ _ refl (ap (λ (x : ℕ). 2 * x) within) refl (task_linkable (frames es) (contents es) size s c.requires);
     }
 
@@ -72,9 +91,9 @@ returns-in-Task c =
     let links = c.link-root.ensures.bags ∙ (λ j. joined (contents es) (a j) (b j)) in
     let kind = sym (ap (λ (x : Entry). x.kind) c.entry-scope.ensures) ∙ c.in-Task.is in
     record {
-      bags = c.pour_parallel.ensures.bags ∙ (λ j. poured (links j) (2 * out j + 1) (root j)) ∙ sym (ap (λ (k : Kind). poured_by k (frames es) (contents es) s) kind);
-      scopes = c.pour_parallel.ensures.scopes ∙ c.link-root.ensures.scopes;
-      size = c.pour_parallel.ensures.size ∙ c.link-root.ensures.size;
+      bags = c.pour.ensures.bags ∙ (λ j. poured (links j) (2 * out j + 1) (root j)) ∙ sym (ap (λ (k : Kind). poured_by k (frames es) (contents es) s) kind);
+      scopes = c.pour.ensures.scopes ∙ c.link-root.ensures.scopes;
+      size = c.pour.ensures.size ∙ c.link-root.ensures.size;
     }
 
 pub returns-then-scope-ne0 : goal.returns-then-scope-ne0
@@ -87,10 +106,10 @@ returns-then-scope-ne0 c =
     let kind = sym (ap (λ (x : Entry). x.kind) c.entry-scope.ensures) ∙ c.in-Finish.is in
     record {
       bags =
-          c.pour_serial.ensures.bags ∙ (λ j. poured (contents es) (2 * within j) (b j))
+          c.pour-then-scope-ne0.ensures.bags ∙ (λ j. poured (contents es) (2 * within j) (b j))
           ∙ sym (ap (λ (k : Kind). poured_by k (frames es) (contents es) s) kind ∙ cond-false (eqb ((contents es).head (2 * s + 1)) 0) _ _ (ne_eqb ((contents es).head (2 * s + 1)) 0 (omega arith)));
-      scopes = c.pour_serial.ensures.scopes;
-      size = c.pour_serial.ensures.size;
+      scopes = c.pour-then-scope-ne0.ensures.scopes;
+      size = c.pour-then-scope-ne0.ensures.size;
     }
 
 pub returns-else-scope-ne0 : goal.returns-else-scope-ne0
