@@ -1,5 +1,5 @@
 -- The entries after an open.
-use Rattle.std.proofs.Common.{◌≡◌, ℕ, ◌+◌, ◌*◌, ◌/◌, ◌<◌, ◌≤◌, cond, eqb, List, length, set, sym, refl, ap, ◌∙◌, subst, ⊎_elim, arith}
+use Rattle.std.proofs.Common.{◌≡◌, ℕ, ◌+◌, ◌*◌, ◌/◌, ◌<◌, ◌≤◌, cond, eqb, List, length, set, sym, refl, ap, ◌∙◌, subst, arith}
 use Rattle.std.proofs.lemmas.Bool.{ne_eqb, cond-false}
 use Rattle.orderings.specs.declared.words.Kind.{Kind}
 use Rattle.orderings.specs.declared.bags.entry.Entry.{Entry}
@@ -7,9 +7,9 @@ use Rattle.orderings.specs.Store.{frames, head_of, head, contents}
 use Rattle.orderings.specs.Meaning.{with_scope}
 use Rattle.orderings.specs.Bags.{meaning_of}
 use Rattle.orderings.specs.Sound.{Sound}
+use Rattle.orderings.specs.Scopes.{task_within}
 use Rattle.orderings.proofs.Entries.{here, there, contents_set, head_serial, head_parallel}
-use Rattle.orderings.specs.Props.{task_finish}
-use Rattle.orderings.proofs.FramedMore.{FramedMore, Within}
+use Rattle.orderings.proofs.FramedMore.{FramedMore}
 use Rattle.orderings.proofs.Opens.{FilledMore, sound_new, meaning_new}
 
 -- the entry of a new scope n
@@ -17,15 +17,14 @@ abbrev pub fresh : Kind → ℕ → ℕ → ℕ → Entry
 fresh k n out within = record { kind = k; rank = 0; parent = n; bag = 2 * n; outward = out; within = within; serial = n; parallel = 0 }
 
 module _ (es : List Entry) (n s w : ℕ) (k : Kind) (room : n < length es) where
-  framed_more : Within (frames es) k n s w → FramedMore (frames es) (frames (set es n (fresh k n s w))) n s k
+  framed_more : w ≡ task_within k n ((frames es).within s) → FramedMore (frames es) (frames (set es n (fresh k n s w))) n s k
   framed_more way = record {
     kinds = λ i l. ap (λ (e : Entry). e.kind) (there es n (fresh k n s w) room i (omega arith));
     outwards = λ i l. ap (λ (e : Entry). e.outward) (there es n (fresh k n s w) room i (omega arith));
     withins = λ i l. ap (λ (e : Entry). e.within) (there es n (fresh k n s w) room i (omega arith));
     new_kind = ap (λ (e : Entry). e.kind) (here es n (fresh k n s w) room);
     new_outward = ap (λ (e : Entry). e.outward) (here es n (fresh k n s w) room);
-    new_task = λ e. ap (λ (x : Entry). x.within) (here es n (fresh k n s w) room) ∙ ⊎_elim (λ v. v.1) (λ v. absurd (task_finish k e v.0)) way;
-    new_finish = λ e. ap (λ (x : Entry). x.within) (here es n (fresh k n s w) room) ∙ ⊎_elim (λ v. absurd (task_finish k v.0 e)) (λ v. v.1) way;
+    new_within = ap (λ (e : Entry). e.within) (here es n (fresh k n s w) room) ∙ way;
   }
 
   filled_more : FilledMore (contents es) (contents (set es n (fresh k n s w))) n
@@ -46,7 +45,7 @@ module _ (es : List Entry) (n s w : ℕ) (k : Kind) (room : n < length es) where
         new_parallel = head_parallel (set es n (fresh k n s w)) n ∙ ap (λ (e : Entry). e.parallel) (here es n (fresh k n s w) room);
       }
 
-  module _ (count : ℕ) (o : Sound (frames es) (contents es) n s count) (small : n ≤ 65536) (inside : s < n) (way : Within (frames es) k n s w) (us : List Entry) (put : us ≡ set es n (fresh k n s w)) where
+  module _ (count : ℕ) (o : Sound (frames es) (contents es) n s count) (small : n ≤ 65536) (inside : s < n) (way : w ≡ task_within k n ((frames es).within s)) (us : List Entry) (put : us ≡ set es n (fresh k n s w)) where
     pub sound_opened : Sound (frames us) (contents us) (n + 1) n (count + 1)
     sound_opened = subst (λ (l : List Entry). Sound (frames l) (contents l) (n + 1) n (count + 1)) (sym put) (sound_new (frames es) _ (contents es) _ n s count k o small inside (framed_more way) filled_more)
 

@@ -1,11 +1,15 @@
 -- Main alone.
 use Rattle.std.proofs.Common.{◌≡◌, ℕ, ◌+◌, ◌*◌, List, ◌∷◌, length, sym, refl, ap, subst, arith}
 use Rattle.orderings.specs.declared.bags.entry.Entry.{Entry}
-use Rattle.orderings.specs.Store.{empty, frames, contents}
+use Rattle.orderings.specs.Store.{empty, Frames, Contents, frames, contents}
 use Rattle.orderings.specs.Sound.{Live, Each, Sound}
 use Rattle.orderings.proofs.Forests.{grown_main}
 use Rattle.orderings.specs.Chains.{chain_main}
 use Rattle.orderings.specs.Props.{task_finish}
+
+-- the numbers of sound bags, otherwise given
+pub sound_at : (fr : Frames) (c : Contents) (n s k n' s' k' : ℕ) → Sound fr c n s k → n' ≡ n → s' ≡ s → k' ≡ k → Sound fr c n' s' k'
+sound_at fr c n s k n' s' k' o e f g = rw (e, f, g) o
 
 pub sound_main : (t : List Entry) → Sound (frames (empty ∷ t)) (contents (empty ∷ t)) 1 0 1
 sound_main t =

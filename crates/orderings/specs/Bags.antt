@@ -29,4 +29,4 @@ meaning_of fr c cap begun inner = record {
 }
 
 abbrev pub meaning : Bags → Meaning
-meaning b = meaning_of (frames (entries b.store)) (contents (entries b.store)) (length b.store.table.now) b.begun b.inner
+meaning b = meaning_of (frames (entries b.store)) (contents (entries b.store)) (length b.store.table.now) b.scopes.begun b.scopes.inner

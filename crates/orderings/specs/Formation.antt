@@ -59,4 +59,4 @@ formed_placed fr place cap n s w l at-main = record {
         (rest, λ j. begun_at (w.main j) (at-main j) ∷ rest)
 
 pub formed_bags : (b : Bags) → WellFormed (meaning b)
-formed_bags b = formed_placed (frames (entries b.store)) (place_of (contents (entries b.store))) _ b.begun b.inner (reveal b.sound).framed b.innermost refl
+formed_bags b = formed_placed (frames (entries b.store)) (place_of (contents (entries b.store))) _ b.scopes.begun b.scopes.inner (reveal b.sound).framed b.scopes.innermost refl

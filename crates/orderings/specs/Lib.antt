@@ -11,3 +11,4 @@ pub mod Placed
 pub mod Formation
 pub mod Chains
 pub mod Props
+pub mod Scopes

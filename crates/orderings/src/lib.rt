@@ -5,10 +5,12 @@ mod bags;
 mod inquiries;
 mod ordering;
 mod questions;
+mod scopes;
 mod words;
 
 pub use bags::{Bags, Entry};
 pub use inquiries::{Inquiry, Request, Response, inquire, put};
 pub use ordering::Ordering;
 pub use questions::{Question, Told, tell};
+pub use scopes::Scopes;
 pub use words::{Code, Fault, Kind, Word};

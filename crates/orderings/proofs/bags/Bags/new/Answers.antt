@@ -1,15 +1,17 @@
-use Rattle.std.proofs.Common.{◌≡◌, ◌+◌, ◌-◌, min, [], ◌∷◌, length, arith}
-use Rattle.graph.specs.History.{task, before}
-use Rattle.orderings.specs.Meaning.{task_at}
-use Rattle.orderings.specs.Store.{chain}
-use Rattle.orderings.proofs.Making.{sound_main}
+use Rattle.std.proofs.Common.{List, ◌∷◌, length, refl, ◌∙◌}
+use Rattle.orderings.specs.declared.bags.entry.Entry.{Entry}
+use Rattle.orderings.specs.Store.{empty, frames, contents}
+use Rattle.orderings.specs.Bags.{place_of, meaning_of}
+use Rattle.orderings.proofs.Making.{sound_at, sound_main}
+use Rattle.orderings.proofs.Placed.{placed_main}
 use Rattle.orderings.proofs.bags.Bags.new.Goals as goal
 
 pub invariant_of-result : goal.invariant_of-result
-invariant_of-result c = record { some = omega arith; fewer = omega arith; room = omega arith; few = omega arith; innermost = omega arith; sound = ∣ sound_main c.args.table.now ∣₁ }
+invariant_of-result c = let new = c.new-scopes.ensures in record { numbers = new.numbers; sound = ∣ sound_at _ _ _ _ _ _ _ _ (sound_main c.args.table.now) new.begun new.inner new.count ∣₁ }
 
 pub returns : goal.returns
-unfolding chain
 returns c =
-    let left_is : min (length c.args.table.now) 65535 + 1 - 1 ≡ min (length c.args.table.now) 65535 = omega arith in
-    λ i. record { opened = task 0 ∷ []; begun = task_at (before 0) ∷ []; left = left_is i }
+    let new = c.new-scopes.ensures in
+    let es : List Entry = empty ∷ c.args.table.now in
+    let cap = length c.args.table.now in
+    (λ j. meaning_of (frames es) (contents es) cap (new.begun j) (new.inner j)) ∙ placed_main (frames es) (place_of (contents es)) cap refl refl

@@ -6,6 +6,7 @@ use Rattle.orderings.proofs.Entries.{table_at}
 use Rattle.orderings.proofs.Climbs.{climb_top, climb_up}
 use Rattle.orderings.proofs.Forests.{rank_low}
 use Rattle.orderings.specs.Props.{reveal}
+use Rattle.orderings.proofs.Numbers.{begun_few}
 use Rattle.orderings.proofs.bags.Bags.root.Goals as goal
 
 pub returns-then-parent-at : goal.returns-then-parent-at
@@ -38,5 +39,5 @@ loop-preserved c =
 pub unreachable-requires : goal.unreachable-requires
 unreachable-requires c =
     let b = c.args.self.now in
-    let low = rank_low (forest (entries b.store)) b.begun (reveal b.sound).grown b.few c.loop.at c.loop.invariant.0 c.loop.invariant.1 in
+    let low = rank_low (forest (entries b.store)) b.scopes.begun (reveal b.sound).grown (begun_few b.scopes) c.loop.at c.loop.invariant.0 c.loop.invariant.1 in
     omega arith

@@ -7,6 +7,6 @@ use Rattle.orderings.proofs.bags.Bags.root.Given as goal
 abbrev pub invariant-loop : goal.invariant-loop
 invariant-loop l =
     (0 < l.at)
-    × (l.at < l.self.begun)
+    × (l.at < l.self.scopes.begun)
     × (l.counter ≤ (forest (entries l.self.store)).rank l.at)
     × (climb (forest (entries l.self.store)).parent (16 - l.counter) l.at ≡ root (forest (entries l.self.store)) l.x)

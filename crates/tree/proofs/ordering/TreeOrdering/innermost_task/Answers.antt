@@ -1,7 +1,7 @@
 use Rattle.std.proofs.Common.{sym, ap, ◌∙◌}
 use Rattle.tree.specs.declared.node.Node.{Node}
 use Rattle.tree.specs.ProgramTree.{tree}
-use Rattle.orderings.proofs.Scopes.{innermost_task_is}
+use Rattle.orderings.proofs.Framed.{innermost_task_is}
 use Rattle.tree.specs.Props.{reveal_tree}
 use Rattle.tree.proofs.ordering.TreeOrdering.innermost_task.Goals as goal
 

@@ -1,0 +1,9 @@
+-- How many scopes can be begun.
+use Rattle.std.proofs.Common.{◌≡◌, ℕ, ◌+◌, ◌≤◌, min, arith}
+use Rattle.orderings.specs.declared.scopes.Scopes.{Scopes}
+
+pub begun_few : (s : Scopes) → s.begun ≤ 65536
+begun_few s = let room = s.room in let few = s.few in omega arith
+
+pub begun_room : (s : Scopes) (n : ℕ) → s.numbers ≡ min n 65535 → s.begun ≤ n + 1
+begun_room s n e = let room = s.room in omega arith
