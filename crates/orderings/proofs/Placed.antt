@@ -19,6 +19,9 @@ use Rattle.orderings.proofs.Framed.{cases_kind, same_counted, at_some, at_none, 
 use Rattle.orderings.specs.Formation.{scopes_of}
 use Rattle.orderings.proofs.FramedMore.{FramedMore, new_first}
 
+pub all_begun : (fr : Frames) (place : ℕ → Place) (n : ℕ) → length (scopes_begun fr place n) ≡ n
+all_begun fr place n = length-map-range_with_len (λ x. begun_at (fr.kind x) (place x)) 0 n
+
 module _ (fr : Frames) (place : ℕ → Place) (n t : ℕ) where
   pub asked_none : n ≤ t → asked (scopes_begun fr place n) t ≡ Err NoSuchTask
   asked_none l = ap word_of (at_none (λ x. begun_at (fr.kind x) (place x)) n t l)
@@ -45,7 +48,7 @@ pub placed_open :
     → ((i : ℕ) → i < n → place' i ≡ place i) → place' n ≡ before n
     → placed gr place' cap (n + 1) n ≡ with_scope k (placed fr place cap n s)
 placed_open fr gr place place' cap n s k w inside F stay own =
-    let len : n ≡ length (scopes_begun fr place n) = sym (length-map-range_with_len (λ x. begun_at (fr.kind x) (place x)) 0 n) in
+    let len = sym (all_begun fr place n) in
     let opened-same = ap (scopes_of gr) (new_first fr gr n s k w inside F) ∙ (λ j. scope_as (F.new_kind j) (len j) ∷ scopes_agree fr n w gr F.kinds F.outwards n s inside j) in
     let begun-same =
     map-range_with_len_more (λ x. begun_at (gr.kind x) (place' x)) 0 n n (omega arith)
@@ -67,7 +70,7 @@ placed_main fr place cap is-task at-main = let left_is : min cap 65535 + 1 - 1 �
 pub opening_placed : (fr : Frames) (place : ℕ → Place) (cap n s : ℕ) (k : Kind) → n ≤ min cap 65535 → (opening (placed fr place cap n s) ≡ Ok n) × (after_open k (placed fr place cap n s) ≡ with_scope k (placed fr place cap n s))
 opening_placed fr place cap n s k free =
     let some = ne_eqb (min cap 65535 + 1 - n) 0 (omega arith) in (
-      cond-false (eqb (min cap 65535 + 1 - n) 0) _ _ some ∙ ap (λ (j : ℕ). Ok j) (length-map-range_with_len (λ x. begun_at (fr.kind x) (place x)) 0 n),
+      cond-false (eqb (min cap 65535 + 1 - n) 0) _ _ some ∙ ap (λ (j : ℕ). Ok j) (all_begun fr place n),
       cond-false (eqb (min cap 65535 + 1 - n) 0) _ _ some,
     )
 

@@ -1,15 +1,22 @@
 -- The tree of main alone is sound.
 use Rattle.std.proofs.Common.{◌≡◌, ℕ, true, List, [], ◌∷◌, length, sym, refl, ap, ◌∙◌, subst, arith}
+use Rattle.graph.specs.History.{before}
 use Rattle.orderings.specs.declared.words.Kind.TheVariants.{Task}
+use Rattle.orderings.specs.Store.{Frames, chain}
 use Rattle.tree.specs.declared.node.Node.{Node}
 use Rattle.tree.specs.Ancestors.{on}
-use Rattle.tree.specs.Nodes.{shape, marks, SoundTree}
+use Rattle.tree.specs.Nodes.{Marks, shape, marks, SoundTree}
+use Rattle.tree.specs.ProgramTree.{place_of}
 use Rattle.orderings.specs.Chains.{chain_main}
 use Rattle.orderings.specs.Props.{task_finish}
 use Rattle.tree.specs.Chains.{on_here}
 
-abbrev main_node : Node
+abbrev pub main_node : Node
 main_node = record { kind = Task; live = true; parent = 0; within = 0; depth = 0; jump = 0 }
+
+-- the numbers of a sound tree, otherwise given
+pub sound_at : (fr : Frames) (m : Marks) (n s k n' s' k' : ℕ) → SoundTree fr m n s k → n' ≡ n → s' ≡ s → k' ≡ k → SoundTree fr m n' s' k'
+sound_at fr m n s k n' s' k' o e f g = rw (e, f, g) o
 
 pub sound_root : (t : List Node) → SoundTree (shape (main_node ∷ t)) (marks (main_node ∷ t)) 1 0 1
 sound_root t =
@@ -31,3 +38,7 @@ sound_root t =
         rule = λ s l ne. absurd (ne (omega arith));
       };
     }
+
+pub main_place : (t : List Node) → place_of (shape (main_node ∷ t)) 1 0 0 ≡ before 0
+unfolding chain
+main_place t = refl

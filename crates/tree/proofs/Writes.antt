@@ -6,10 +6,10 @@ use Rattle.tree.specs.declared.node.Node.{Node}
 use Rattle.orderings.specs.Meaning.{with_scope, after_close}
 use Rattle.orderings.specs.Store.{Frames}
 use Rattle.orderings.specs.Placed.{placed}
+use Rattle.orderings.specs.Scopes.{task_within}
 use Rattle.tree.specs.Nodes.{no_node, node_at, shape, Marks, marks, jump_under, SoundTree}
 use Rattle.tree.specs.ProgramTree.{place_of}
-use Rattle.orderings.specs.Props.{task_finish}
-use Rattle.orderings.proofs.FramedMore.{FramedMore, Within}
+use Rattle.orderings.proofs.FramedMore.{FramedMore}
 use Rattle.tree.proofs.Opens.{MarkedMore, tree_new, placed_new}
 use Rattle.tree.proofs.Closes.{without_live, tree_closed, placed_closed}
 
@@ -23,7 +23,7 @@ module _ (es : List Node) (n : ℕ) (e : Node) (room : n < length es) where
 -- the node e of a new scope n within s
 pub record Fits (fr : Frames) (m : Marks) (n s : ℕ) (e : Node) : Type 0 where
   pub parent : e.parent ≡ s
-  pub within : Within fr e.kind n s e.within
+  pub within : e.within ≡ task_within e.kind n (fr.within s)
   pub live : e.live ≡ true
   pub depth : e.depth ≡ m.depth s + 1
   pub jump : e.jump ≡ jump_under m s
@@ -36,8 +36,7 @@ module _ (es : List Node) (n s count : ℕ) (e : Node) (room : n < length es) (i
     withins = λ i l. ap (λ (x : Node). x.within) (there es n e room i (omega arith));
     new_kind = ap (λ (x : Node). x.kind) (here es n e room);
     new_outward = ap (λ (x : Node). x.parent) (here es n e room) ∙ fit.parent;
-    new_task = λ t. ap (λ (x : Node). x.within) (here es n e room) ∙ ⊎_elim (λ v. v.1) (λ v. absurd (task_finish e.kind t v.0)) fit.within;
-    new_finish = λ f. ap (λ (x : Node). x.within) (here es n e room) ∙ ⊎_elim (λ v. absurd (task_finish e.kind v.0 f)) (λ v. v.1) fit.within;
+    new_within = ap (λ (x : Node). x.within) (here es n e room) ∙ fit.within;
   }
 
   marked_more : MarkedMore (marks es) (marks (set es n e)) n s

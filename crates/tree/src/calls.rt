@@ -7,7 +7,7 @@ ghost use Rattle.tree.specs.ProgramTree.{meaning as meaning_of, Closed, side_of,
 use crate::Tree;
 use crate::node::Node;
 use crate::nodes::Nodes;
-use orderings::{Fault, Kind, Word};
+use orderings::{Fault, Kind, Scopes, Word};
 
 impl<'t> Tree<'t> {
     /// Main alone is begun. A table of n entries leaves the smaller of n and 65,535 numbers beyond main.
@@ -18,11 +18,10 @@ impl<'t> Tree<'t> {
             live: true,
             ..Node::EMPTY
         };
+        let scopes = Scopes::new(table.len());
         Tree {
             nodes: Nodes { main, table },
-            begun: 1,
-            inner: 0,
-            count: 1,
+            scopes,
         }
     }
 }
@@ -38,7 +37,7 @@ impl Tree<'_> {
         ensures turns { Within48 self.now }
         ensures logarithmic { Within3Log self.now }
     {
-        if task >= self.begun {
+        if task >= self.scopes.begun() {
             return Err(Fault::NoSuchTask);
         }
         let node = self.nodes.node(task);
@@ -78,15 +77,16 @@ impl Tree<'_> {
 
     // The jump of a new child of the innermost scope: past two jumps of one length, else to that scope.
     fn next_jump(&self) -> u32
-        ensures { result ≡ jump_under (marks (all self.now.nodes)) self.now.inner }
+        ensures { result ≡ jump_under (marks (all self.now.nodes)) self.now.scopes.inner }
     {
-        let parent = self.nodes.node(self.inner);
+        let inner = self.scopes.innermost();
+        let parent = self.nodes.node(inner);
         let far = self.nodes.node(parent.jump);
         let farther = self.nodes.node(far.jump);
         if parent.depth - far.depth == far.depth - farther.depth {
             far.jump
         } else {
-            self.inner
+            inner
         }
     }
 
@@ -95,16 +95,11 @@ impl Tree<'_> {
         ensures after { meaning_of self.new ≡ after_open kind (meaning_of self.old) }
         ensures refused { (f : Fault) → result ≡ Err f → self.new ≡ self.old }
     {
-        let number = self.begun;
-        if number > 65535 || number as usize > self.nodes.table.len() {
-            return Err(Fault::NoNumberLeft);
-        }
-        let parent = self.inner;
+        let parent = self.scopes.innermost();
+        let scopes = self.scopes.opened()?;
+        let number = scopes.innermost();
         let above = self.nodes.node(parent);
-        let within = match kind {
-            Kind::Task => number,
-            Kind::Finish => above.within,
-        };
+        let within = scopes.within(kind, above.within);
         let jump = self.next_jump();
         self.nodes.table[number as usize - 1] = Node {
             kind,
@@ -114,9 +109,7 @@ impl Tree<'_> {
             depth: above.depth + 1,
             jump,
         };
-        self.begun = number + 1;
-        self.inner = number;
-        self.count += 1;
+        self.scopes = scopes;
         Ok(number)
     }
 
@@ -125,14 +118,11 @@ impl Tree<'_> {
         ensures after { meaning_of self.new ≡ after_close (meaning_of self.old) }
         ensures refused { (f : Fault) → result ≡ Err f → self.new ≡ self.old }
     {
-        if self.count <= 1 {
-            return Err(Fault::MainAlone);
-        }
-        let number = self.inner;
+        let number = self.scopes.innermost();
         let parent = self.nodes.node(number).parent;
+        let scopes = self.scopes.closed(parent)?;
         self.nodes.table[number as usize - 1].live = false;
-        self.inner = parent;
-        self.count -= 1;
+        self.scopes = scopes;
         Ok(number)
     }
 }

@@ -1,10 +1,11 @@
 //! The program structure tree: an ordering on a table lent by the caller.
 #![tactic(auto)]
 
-ghost use Rattle.std.specs.Prelude.{◌+◌, ◌<◌, ◌≤◌, length};
+ghost use Rattle.std.specs.Prelude.{◌≡◌, min, length};
 ghost use Rattle.tree.specs.Nodes.{all, shape, marks, SoundTree};
 
 use crate::nodes::Nodes;
+use orderings::Scopes;
 
 mod calls;
 mod node;
@@ -18,16 +19,7 @@ pub use node::Node;
 #[derive(Drop)]
 pub struct Tree<'t> {
     nodes: Nodes<'t>,
-    /// How many scopes were begun, main counted.
-    begun: u32,
-    /// The innermost open scope.
-    inner: u32,
-    /// How many scopes are open, main counted.
-    count: u32,
-    ghost some: { 0 < count },
-    ghost fewer: { count ≤ begun },
-    ghost room: { begun ≤ length nodes.table.now + 1 },
-    ghost few: { begun ≤ 65536 },
-    ghost innermost: { inner < begun },
-    ghost sound: { ∥ SoundTree (shape (all nodes)) (marks (all nodes)) begun inner count ∥₁ },
+    scopes: Scopes,
+    ghost numbers: { scopes.numbers ≡ min (length nodes.table.now) 65535 },
+    ghost sound: { ∥ SoundTree (shape (all nodes)) (marks (all nodes)) scopes.begun scopes.inner scopes.count ∥₁ },
 }

@@ -1,22 +1,18 @@
-use Rattle.std.proofs.Common.{◌≡◌, ◌+◌, ◌-◌, min, [], ◌∷◌, length, arith}
-use Rattle.graph.specs.History.{task, before}
-use Rattle.orderings.specs.Meaning.{task_at}
-use Rattle.orderings.specs.Store.{chain}
-use Rattle.tree.proofs.Making.{sound_root}
+use Rattle.std.proofs.Common.{List, ◌∷◌, length, refl, ◌∙◌}
+use Rattle.orderings.specs.Placed.{placed}
+use Rattle.orderings.proofs.Placed.{placed_main}
+use Rattle.tree.specs.declared.node.Node.{Node}
+use Rattle.tree.specs.Nodes.{shape}
+use Rattle.tree.specs.ProgramTree.{place_of}
+use Rattle.tree.proofs.Making.{main_node, sound_at, sound_root, main_place}
 use Rattle.tree.proofs.Tree.new.Goals as goal
 
 pub invariant_of-result : goal.invariant_of-result
-invariant_of-result c = record {
-  some = omega arith;
-  fewer = omega arith;
-  room = omega arith;
-  few = omega arith;
-  innermost = omega arith;
-  sound = ∣ sound_root c.args.table.now ∣₁;
-}
+invariant_of-result c = let new = c.new-scopes.ensures in record { numbers = new.numbers; sound = ∣ sound_at _ _ _ _ _ _ _ _ (sound_root c.args.table.now) new.begun new.inner new.count ∣₁ }
 
 pub returns : goal.returns
-unfolding chain
 returns c =
-    let left_is : min (length c.args.table.now) 65535 + 1 - 1 ≡ min (length c.args.table.now) 65535 = omega arith in
-    λ i. record { opened = task 0 ∷ []; begun = task_at (before 0) ∷ []; left = left_is i }
+    let new = c.new-scopes.ensures in
+    let ns : List Node = main_node ∷ c.args.table.now in
+    let cap = length c.args.table.now in
+    (λ j. placed (shape ns) (place_of (shape ns) (new.begun j) (new.inner j)) cap (new.begun j) (new.inner j)) ∙ placed_main (shape ns) (place_of (shape ns) 1 0) cap refl (main_place c.args.table.now)

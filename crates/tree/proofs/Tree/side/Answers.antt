@@ -1,5 +1,6 @@
 use Rattle.std.proofs.Common.{◌≡◌, ℕ, ◌+◌, ◌<◌, ◌≤◌, false, sym, ap, ◌∙◌, subst, arith}
 use Rattle.std.proofs.lemmas.Bool.{cond-true, cond-false, cond_both}
+use Rattle.orderings.proofs.Numbers.{begun_room}
 use Rattle.tree.specs.declared.Tree.{Tree}
 use Rattle.tree.specs.declared.node.Node.{Node}
 use Rattle.tree.specs.Nodes.{all, node_at, Marks, marks, Turns}
@@ -12,18 +13,18 @@ use Rattle.tree.proofs.Tree.side.Goals.{then-far, else-far}
 use Rattle.tree.proofs.Tree.side.Goals as goal
 
 -- the parent and the jump of a closed scope are begun
-parent_begun : (t : Tree) (x : ℕ) → Closed t x → (tree t).outward x < t.begun
+parent_begun : (t : Tree) (x : ℕ) → Closed t x → (tree t).outward x < t.scopes.begun
 parent_begun t x c =
     let s = sound_of t in
     let l = c.begun in
-    let low = s.framed.inward x l (closed_not_main (tree t).outward t.begun s.framed.inward t.inner t.innermost x (closed_off t x c)) in
+    let low = s.framed.inward x l (closed_not_main (tree t).outward t.scopes.begun s.framed.inward t.scopes.inner t.scopes.innermost x (closed_off t x c)) in
     omega arith
 
-jump_begun : (t : Tree) (x : ℕ) → Closed t x → (marks (all t.nodes)).jump x < t.begun
+jump_begun : (t : Tree) (x : ℕ) → Closed t x → (marks (all t.nodes)).jump x < t.scopes.begun
 jump_begun t x c =
     let s = sound_of t in
     let l = c.begun in
-    let low = (leads (tree t) (marks (all t.nodes)) t.begun t.inner s.framed s.marked x l).low in
+    let low = (leads (tree t) (marks (all t.nodes)) t.scopes.begun t.scopes.inner s.framed s.marked x l).low in
     omega arith
 
 -- a turn leads to a closed scope again, with one turn less to go
@@ -45,12 +46,12 @@ pub loop-init : goal.loop-init
 loop-init c = let end = within_48 c.args.self.now c.args.x c.requires in let most = end.1 in (c.requires, end.0, omega arith, end.2)
 
 pub node-node-requires : goal.node-node-requires
-node-node-requires c = let t = c.args.self.now in let room = t.room in let l = c.loop.invariant.0.begun in omega arith
+node-node-requires c = let t = c.args.self.now in let room = begun_room t.scopes _ t.numbers in let l = c.loop.invariant.0.begun in omega arith
 
 pub node-above-requires : goal.node-above-requires
 node-above-requires c =
     let t = c.args.self.now in
-    let room = t.room in
+    let room = begun_room t.scopes _ t.numbers in
     let l = parent_begun t c.loop.at c.loop.invariant.0 in
     let read = ap (λ (e : Node). e.parent) c.node-node.ensures in
     omega arith
@@ -65,7 +66,7 @@ returns-then-above c =
 pub node-far-requires : goal.node-far-requires
 node-far-requires c =
     let t = c.args.self.now in
-    let room = t.room in
+    let room = begun_room t.scopes _ t.numbers in
     let l = jump_begun t c.loop.at c.loop.invariant.0 in
     let read = ap (λ (e : Node). e.jump) c.node-node.ensures in
     omega arith
