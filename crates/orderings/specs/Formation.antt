@@ -8,7 +8,8 @@ use Rattle.orderings.specs.declared.words.Kind.{Kind}
 use Rattle.orderings.specs.declared.words.Kind.TheVariants.{Task, Finish}
 use Rattle.orderings.specs.declared.bags.Bags.{Bags}
 use Rattle.orderings.specs.Meaning.{Begun, task_at, scope_as, Fall, WellFormed}
-use Rattle.orderings.specs.Store.{Frames, frames, entries, contents, chain}
+use Rattle.orderings.specs.Store.{Frames, frames, contents, chain}
+use Rattle.orderings.specs.Table.{entries}
 use Rattle.orderings.specs.Sound.{Framed}
 use Rattle.orderings.specs.Bags.{place_of, begun_at, meaning}
 use Rattle.orderings.specs.Placed.{scopes_begun, placed}

@@ -12,3 +12,4 @@ pub mod Formation
 pub mod Chains
 pub mod Props
 pub mod Scopes
+pub mod Table

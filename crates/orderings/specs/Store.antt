@@ -3,11 +3,7 @@ use Rattle.std.specs.Prelude.{ℕ, zero, suc, ◌+◌, ◌*◌, ◌/◌, ◌%◌
 use Rattle.orderings.specs.declared.words.Kind.{Kind}
 use Rattle.orderings.specs.declared.words.Kind.TheVariants.{Task, Finish}
 use Rattle.orderings.specs.declared.bags.entry.Entry.{Entry}
-use Rattle.orderings.specs.declared.bags.store.Store.{Store}
 use Rattle.orderings.specs.Forest.{Forest, upd, winner, linked}
-
-abbrev pub entries : Store → List Entry
-entries s = s.main ∷ s.table.now
 
 -- an entry that holds no scope yet
 abbrev pub empty : Entry

@@ -1,10 +1,11 @@
 //! The bags: an ordering on a table lent by the caller.
 ghost use Rattle.std.specs.Prelude.{◌≡◌, min, length};
-ghost use Rattle.orderings.specs.Store.{entries, frames, contents};
+ghost use Rattle.orderings.specs.Store.{frames, contents};
+ghost use Rattle.orderings.specs.Table.{entries};
 ghost use Rattle.orderings.specs.Sound.{Sound};
 
-use crate::bags::store::Store;
 use crate::scopes::Scopes;
+use crate::table::Table;
 
 mod calls;
 mod entry;
@@ -17,8 +18,8 @@ pub use entry::Entry;
 /// with it. A bag is a tree of a forest, linked by rank.
 #[derive(Drop)]
 pub struct Bags<'t> {
-    store: Store<'t>,
+    store: Table<'t, Entry>,
     scopes: Scopes,
-    ghost numbers: { scopes.numbers ≡ min (length store.table.now) 65535 },
+    ghost numbers: { scopes.numbers ≡ min (length store.lent.now) 65535 },
     ghost sound: { ∥ Sound (frames (entries store)) (contents (entries store)) scopes.begun scopes.inner scopes.count ∥₁ },
 }

@@ -6,6 +6,7 @@ mod inquiries;
 mod ordering;
 mod questions;
 mod scopes;
+mod table;
 mod words;
 
 pub use bags::{Bags, Entry};
@@ -13,4 +14,5 @@ pub use inquiries::{Inquiry, Request, Response, inquire, put};
 pub use ordering::Ordering;
 pub use questions::{Question, Told, tell};
 pub use scopes::Scopes;
+pub use table::Table;
 pub use words::{Code, Fault, Kind, Word};

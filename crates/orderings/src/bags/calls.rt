@@ -2,13 +2,14 @@
 ghost use Rattle.std.specs.Prelude.{◌≡◌, ◌<◌, min, length, Err};
 ghost use Rattle.orderings.specs.Forest.{root as root_of, Shallow};
 ghost use Rattle.orderings.specs.Meaning.{new as fresh, opening, after_open, closing, after_close, asked};
-ghost use Rattle.orderings.specs.Store.{entries, forest};
+ghost use Rattle.orderings.specs.Store.{forest};
+ghost use Rattle.orderings.specs.Table.{entries};
 ghost use Rattle.orderings.specs.Bags.{meaning as meaning_of};
 
 use crate::bags::Bags;
 use crate::bags::entry::Entry;
-use crate::bags::store::Store;
 use crate::scopes::Scopes;
+use crate::table::Table;
 use crate::words::{Fault, Kind, Word};
 
 impl<'t> Bags<'t> {
@@ -18,9 +19,9 @@ impl<'t> Bags<'t> {
     {
         let scopes = Scopes::new(table.len());
         Bags {
-            store: Store {
+            store: Table {
                 main: Entry::EMPTY,
-                table,
+                lent: table,
             },
             scopes,
         }
@@ -40,12 +41,12 @@ impl Bags<'_> {
         if task == 0 {
             return Ok(Word::Before);
         }
-        let kind = self.store.table[task as usize - 1].kind;
+        let kind = self.store.lent[task as usize - 1].kind;
         match kind {
             Kind::Finish => Err(Fault::NoSuchTask),
             Kind::Task => {
                 let root = self.root(task);
-                if self.store.table[root as usize - 1].bag % 2 == 0 {
+                if self.store.lent[root as usize - 1].bag % 2 == 0 {
                     Ok(Word::Before)
                 } else {
                     Ok(Word::Unordered)
@@ -61,7 +62,7 @@ impl Bags<'_> {
     {
         let mut at = x;
         for _ in 0..16u32 {
-            let parent = self.store.table[at as usize - 1].parent;
+            let parent = self.store.lent[at as usize - 1].parent;
             if parent == at {
                 return at;
             }
@@ -79,8 +80,8 @@ impl Bags<'_> {
         let outward = self.scopes.innermost();
         let scopes = self.scopes.opened()?;
         let number = scopes.innermost();
-        let within = scopes.within(kind, self.store.entry(outward).within);
-        self.store.table[number as usize - 1] = Entry {
+        let within = scopes.within(kind, self.store.at(outward).within);
+        self.store.lent[number as usize - 1] = Entry {
             kind,
             rank: 0,
             parent: number,
@@ -101,7 +102,7 @@ impl Bags<'_> {
         ensures refused { (f : Fault) → result ≡ Err f → self.new ≡ self.old }
     {
         let number = self.scopes.innermost();
-        let outward = self.store.entry(number).outward;
+        let outward = self.store.at(number).outward;
         let scopes = self.scopes.closed(outward)?;
         self.store.pour_out(number);
         self.scopes = scopes;

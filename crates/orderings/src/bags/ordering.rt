@@ -30,7 +30,7 @@ impl<'t> Ordering for Bags<'t> {
     }
 
     fn innermost_task(&self) -> u32 {
-        self.store.entry(self.scopes.innermost()).within
+        self.store.at(self.scopes.innermost()).within
     }
 
     fn open_count(&self) -> u32 {
@@ -40,7 +40,7 @@ impl<'t> Ordering for Bags<'t> {
     fn kind_of(&self, number: u32) -> Option<Kind> {
         // Not by `then`: its closure would need a contract written out.
         if number < self.scopes.begun() {
-            Some(self.store.entry(number).kind)
+            Some(self.store.at(number).kind)
         } else {
             None
         }

@@ -3,7 +3,8 @@ use Rattle.orderings.specs.declared.bags.Bags.{Bags}
 use Rattle.orderings.specs.declared.bags.entry.Entry.{Entry}
 use Rattle.orderings.specs.declared.scopes.Scopes.{Scopes}
 use Rattle.orderings.specs.Meaning.{closing, after_close}
-use Rattle.orderings.specs.Store.{entries, entry_at, Frames, frames, Contents, contents, poured_by}
+use Rattle.orderings.specs.Store.{entry_at, Frames, frames, Contents, contents, poured_by}
+use Rattle.orderings.specs.Table.{entries}
 use Rattle.orderings.specs.Sound.{Sound, Closable}
 use Rattle.orderings.specs.Scopes.{ClosedTo}
 use Rattle.orderings.specs.Bags.{meaning_of, meaning}
@@ -23,7 +24,7 @@ module _ (b : Bags) (now : Scopes) (s : ℕ) (number-is : s ≡ b.scopes.inner) 
   held = contents (entries b.store)
 
   abbrev cap : ℕ
-  cap = length b.store.table.now
+  cap = length b.store.lent.now
 
   abbrev closable : Closable fr held cap s
   closable = record {
@@ -57,7 +58,7 @@ module _ (b : Bags) (now : Scopes) (s : ℕ) (number-is : s ≡ b.scopes.inner) 
     answer_close = sym (answer_after fr held cap s closable (contents us) bags cap) ∙ ap (λ (i : ℕ). closing (meaning_of fr held cap b.scopes.begun i)) number-is
 
 pub pour_out-requires : goal.pour_out-requires
-pour_out-requires c = closable c.args.self.now c.in_ok-scopes.scopes _ c.innermost-number.ensures _ c.entry-outward.ensures c.in_ok-scopes.ensures
+pour_out-requires c = closable c.args.self.now c.in_ok-scopes.scopes _ c.innermost-number.ensures _ c.at-outward.ensures c.in_ok-scopes.ensures
 
 pub invariant_of-self : goal.invariant_of-self
 invariant_of-self c =
@@ -66,15 +67,15 @@ invariant_of-self c =
     let pours = c.pour_out.ensures in
     record {
       numbers = out.numbers ∙ b.numbers ∙ ap (λ (l : ℕ). min l 65535) (sym pours.size);
-      sound = ∣ sound_close b c.in_ok-scopes.scopes _ c.innermost-number.ensures _ c.entry-outward.ensures out (entries c.pour_out.new.self) pours.bags pours.scopes ∣₁;
+      sound = ∣ sound_close b c.in_ok-scopes.scopes _ c.innermost-number.ensures _ c.at-outward.ensures out (entries c.pour_out.new.self) pours.bags pours.scopes ∣₁;
     }
 
 pub returns-clause-answer : goal.returns-clause-answer
 returns-clause-answer c =
     let pours = c.pour_out.ensures in
-    answer_close c.args.self.now c.in_ok-scopes.scopes _ c.innermost-number.ensures _ c.entry-outward.ensures c.in_ok-scopes.ensures (entries c.pour_out.new.self) pours.bags pours.scopes
+    answer_close c.args.self.now c.in_ok-scopes.scopes _ c.innermost-number.ensures _ c.at-outward.ensures c.in_ok-scopes.ensures (entries c.pour_out.new.self) pours.bags pours.scopes
 
 pub returns-clause-after : goal.returns-clause-after
 returns-clause-after c =
     let pours = c.pour_out.ensures in
-    meaning_close c.args.self.now c.in_ok-scopes.scopes _ c.innermost-number.ensures _ c.entry-outward.ensures c.in_ok-scopes.ensures (entries c.pour_out.new.self) pours.bags pours.scopes _ pours.size
+    meaning_close c.args.self.now c.in_ok-scopes.scopes _ c.innermost-number.ensures _ c.at-outward.ensures c.in_ok-scopes.ensures (entries c.pour_out.new.self) pours.bags pours.scopes _ pours.size

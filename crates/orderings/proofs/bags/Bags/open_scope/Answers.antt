@@ -4,7 +4,8 @@ use Rattle.orderings.specs.declared.scopes.Scopes.{Scopes}
 use Rattle.orderings.specs.declared.bags.Bags.{Bags}
 use Rattle.orderings.specs.declared.bags.entry.Entry.{Entry}
 use Rattle.orderings.specs.Meaning.{after_open}
-use Rattle.orderings.specs.Store.{entries, entry_at, frames, contents}
+use Rattle.orderings.specs.Store.{entry_at, frames, contents}
+use Rattle.orderings.specs.Table.{entries}
 use Rattle.orderings.specs.Scopes.{Opened, task_within}
 use Rattle.orderings.specs.Sound.{Sound}
 use Rattle.orderings.specs.Bags.{place_of, meaning_of, meaning}
@@ -26,7 +27,7 @@ module _ (b : Bags) (k : Kind) (now : Scopes) (o : Opened b.scopes now) (number 
   es = entries b.store
 
   abbrev us : List Entry
-  us = b.store.main ∷ set b.store.table.now (number - 1) (fresh k number outward within)
+  us = b.store.main ∷ set b.store.lent.now (number - 1) (fresh k number outward within)
 
   next : number ≡ n
   next = number-is ∙ o.inner
@@ -34,13 +35,13 @@ module _ (b : Bags) (k : Kind) (now : Scopes) (o : Opened b.scopes now) (number 
   way : within ≡ task_within k n ((frames es).within b.scopes.inner)
   way = within-is ∙ ap (λ (e : Entry). task_within k now.inner e.within) above-is ∙ (λ j. task_within k (o.inner j) ((frames es).within (outward-is j)))
 
-  free : n ≤ min (length b.store.table.now) 65535
+  free : n ≤ min (length b.store.lent.now) 65535
   free = let numbers = b.numbers in let free = o.free in omega arith
 
   put : us ≡ set es n (fresh k n b.scopes.inner within)
   put =
       let inside = b.scopes.innermost in
-      (λ j. b.store.main ∷ set b.store.table.now (next j - 1) (fresh k (next j) (outward-is j) within)) ∙ table_set b.store.main b.store.table.now n (λ _. fresh k n b.scopes.inner within) (omega arith)
+      (λ j. b.store.main ∷ set b.store.lent.now (next j - 1) (fresh k (next j) (outward-is j) within)) ∙ table_set b.store.main b.store.lent.now n (λ _. fresh k n b.scopes.inner within) (omega arith)
 
   room : n < length es
   room = let l = free in omega arith
@@ -48,20 +49,20 @@ module _ (b : Bags) (k : Kind) (now : Scopes) (o : Opened b.scopes now) (number 
   sound_open : Sound (frames us) (contents us) now.begun now.inner now.count
   sound_open = sound_at _ _ _ _ _ _ _ _ (sound_opened es n b.scopes.inner within k room b.scopes.count (reveal b.sound) (begun_few b.scopes) b.scopes.innermost way us put) o.begun o.inner o.count
 
-  meaning_open : (size : ℕ) → size ≡ length b.store.table.now → meaning_of (frames us) (contents us) size now.begun now.inner ≡ after_open k (meaning b)
+  meaning_open : (size : ℕ) → size ≡ length b.store.lent.now → meaning_of (frames us) (contents us) size now.begun now.inner ≡ after_open k (meaning b)
   meaning_open size e =
       (λ j. meaning_of (frames us) (contents us) size (o.begun j) (o.inner j))
-      ∙ meaning_opened es n b.scopes.inner within k room b.scopes.count (reveal b.sound) (begun_few b.scopes) b.scopes.innermost way us put size (length b.store.table.now) e
-      ∙ sym (opening_placed (frames es) (place_of (contents es)) (length b.store.table.now) n b.scopes.inner k free).1
+      ∙ meaning_opened es n b.scopes.inner within k room b.scopes.count (reveal b.sound) (begun_few b.scopes) b.scopes.innermost way us put size (length b.store.lent.now) e
+      ∙ sym (opening_placed (frames es) (place_of (contents es)) (length b.store.lent.now) n b.scopes.inner k free).1
 
 pub invariant_of-self : goal.invariant_of-self
 invariant_of-self c =
     let b = c.args.self.now in
     let o = c.in_ok-scopes.ensures in
-    let size = length-set b.store.table.now (c.innermost-number.result - 1) _ in
+    let size = length-set b.store.lent.now (c.innermost-number.result - 1) _ in
     record {
       numbers = o.numbers ∙ b.numbers ∙ ap (λ (l : ℕ). min l 65535) (sym size);
-      sound = ∣ sound_open b c.args.kind c.in_ok-scopes.scopes o _ _ _ c.entry.result c.innermost-number.ensures c.innermost-outward.ensures c.entry.ensures c.within-within.ensures ∣₁;
+      sound = ∣ sound_open b c.args.kind c.in_ok-scopes.scopes o _ _ _ c.at.result c.innermost-number.ensures c.innermost-outward.ensures c.at.ensures c.within-within.ensures ∣₁;
     }
 
 pub returns-clause-answer : goal.returns-clause-answer
@@ -69,10 +70,10 @@ returns-clause-answer c =
     let b = c.args.self.now in
     let o = c.in_ok-scopes.ensures in
     let es : List Entry = entries b.store in
-    sym ((opening_placed (frames es) (place_of (contents es)) (length b.store.table.now) b.scopes.begun b.scopes.inner c.args.kind (omega arith)).0 ∙ ap (λ (j : ℕ). Ok j) (sym (c.innermost-number.ensures ∙ o.inner)))
+    sym ((opening_placed (frames es) (place_of (contents es)) (length b.store.lent.now) b.scopes.begun b.scopes.inner c.args.kind (omega arith)).0 ∙ ap (λ (j : ℕ). Ok j) (sym (c.innermost-number.ensures ∙ o.inner)))
 
 pub returns-clause-after : goal.returns-clause-after
 returns-clause-after c =
     let b = c.args.self.now in
     let o = c.in_ok-scopes.ensures in
-    meaning_open b c.args.kind c.in_ok-scopes.scopes o _ _ _ c.entry.result c.innermost-number.ensures c.innermost-outward.ensures c.entry.ensures c.within-within.ensures _ (length-set b.store.table.now (c.innermost-number.result - 1) _)
+    meaning_open b c.args.kind c.in_ok-scopes.scopes o _ _ _ c.at.result c.innermost-number.ensures c.innermost-outward.ensures c.at.ensures c.within-within.ensures _ (length-set b.store.lent.now (c.innermost-number.result - 1) _)

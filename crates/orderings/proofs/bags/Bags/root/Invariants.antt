@@ -1,6 +1,7 @@
 use Rattle.std.proofs.Common.{◌≡◌, ◌-◌, ◌<◌, ◌≤◌}
 use Rattle.orderings.specs.Forest.{climb, root}
-use Rattle.orderings.specs.Store.{entries, forest}
+use Rattle.orderings.specs.Store.{forest}
+use Rattle.orderings.specs.Table.{entries}
 use Rattle.orderings.proofs.bags.Bags.root.Given as goal
 
 -- the rank has risen with each turn, and what is left of the way leads to the root

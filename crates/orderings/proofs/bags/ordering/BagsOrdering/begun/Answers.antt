@@ -1,5 +1,6 @@
 use Rattle.std.proofs.Common.{arith}
-use Rattle.orderings.specs.Store.{entries, frames, contents}
+use Rattle.orderings.specs.Store.{frames, contents}
+use Rattle.orderings.specs.Table.{entries}
 use Rattle.orderings.specs.Bags.{place_of}
 use Rattle.orderings.proofs.Placed.{all_begun}
 use Rattle.orderings.proofs.bags.ordering.BagsOrdering.begun.Goals as goal

@@ -3,10 +3,11 @@ use Rattle.std.proofs.lemmas.Bool.{eq-eqb, ne_eqb, cond-true, cond-false}
 use Rattle.orderings.specs.declared.words.Kind.{Kind}
 use Rattle.orderings.specs.declared.bags.entry.Entry.{Entry}
 use Rattle.orderings.specs.Forest.{winner}
-use Rattle.orderings.specs.Store.{entries, entry_at, forest, frames, contents, joined, poured, poured_by}
+use Rattle.orderings.specs.Store.{entry_at, forest, frames, contents, joined, poured, poured_by}
+use Rattle.orderings.specs.Table.{entries}
 use Rattle.orderings.proofs.Entries.{head_serial, head_parallel}
 use Rattle.orderings.proofs.Closing.{linkable_same, outer_inside, task_inside, serial_linkable, parallel_linkable, task_linkable, outer_linkable, own_root_inside}
-use Rattle.orderings.proofs.bags.store.Store.pour_out.Goals as goal
+use Rattle.orderings.proofs.bags.store.Table+Entry.pour_out.Goals as goal
 
 -- the bags of the entry that was read
 module _ (es : List Entry) (s : ℕ) (e : Entry) (read : e ≡ entry_at es s) where
@@ -20,9 +21,9 @@ pub link-root-requires : goal.link-root-requires
 link-root-requires c =
     let es : List Entry = entries c.args.self.now in
     let s = c.args.s in
-    let size = length c.args.self.now.table.now in
-    let a = serial_is es s c.entry-scope.result c.entry-scope.ensures in
-    let b = parallel_is es s c.entry-scope.result c.entry-scope.ensures in
+    let size = length c.args.self.now.lent.now in
+    let a = serial_is es s c.at-scope.result c.at-scope.ensures in
+    let b = parallel_is es s c.at-scope.result c.at-scope.ensures in
     let serial = serial_linkable (frames es) (contents es) size s c.requires in
     let parallel = parallel_linkable (frames es) (contents es) size s c.requires in
     let serial-in = serial.inside in
@@ -31,20 +32,20 @@ link-root-requires c =
 
 pub overflow_mul-scope : goal.overflow_mul-scope
 overflow_mul-scope c =
-    let out = ap (λ (x : Entry). x.outward) c.entry-scope.ensures in
+    let out = ap (λ (x : Entry). x.outward) c.at-scope.ensures in
     let outer = outer_inside _ _ _ c.args.s c.requires in
     omega arith
 
 pub overflow_add-scope : goal.overflow_add-scope
 overflow_add-scope c =
-    let out = ap (λ (x : Entry). x.outward) c.entry-scope.ensures in
+    let out = ap (λ (x : Entry). x.outward) c.at-scope.ensures in
     let outer = outer_inside _ _ _ c.args.s c.requires in
     omega arith
 
 pub overflow_mul-task : goal.overflow_mul-task
 overflow_mul-task c =
     let es : List Entry = entries c.args.self.now in
-    let within = ap (λ (x : Entry). x.within) c.entry-task.ensures ∙ ap (frames es).within (ap (λ (x : Entry). x.outward) c.entry-scope.ensures) in
+    let within = ap (λ (x : Entry). x.within) c.at-task.ensures ∙ ap (frames es).within (ap (λ (x : Entry). x.outward) c.at-scope.ensures) in
     let task = task_inside _ _ _ c.args.s c.requires in
     omega arith
 
@@ -52,10 +53,10 @@ pub pour-requires : goal.pour-requires
 pour-requires c =
     let es : List Entry = entries c.args.self.now in
     let s = c.args.s in
-    let size = length c.args.self.now.table.now in
-    let a = serial_is es s c.entry-scope.result c.entry-scope.ensures in
-    let b = parallel_is es s c.entry-scope.result c.entry-scope.ensures in
-    let out = ap (λ (x : Entry). x.outward) c.entry-scope.ensures in
+    let size = length c.args.self.now.lent.now in
+    let a = serial_is es s c.at-scope.result c.at-scope.ensures in
+    let b = parallel_is es s c.at-scope.result c.at-scope.ensures in
+    let out = ap (λ (x : Entry). x.outward) c.at-scope.ensures in
     let root = c.link-root.ensures.answer ∙ (λ j. winner (forest es) (a j) (b j)) in
     let same = c.link-root.ensures.size in
     let outer = outer_inside (frames es) (contents es) size s c.requires in
@@ -69,10 +70,10 @@ pub pour-requires-then-scope-ne0 : goal.pour-requires-then-scope-ne0
 pour-requires-then-scope-ne0 c =
     let es : List Entry = entries c.args.self.now in
     let s = c.args.s in
-    let size = length c.args.self.now.table.now in
-    let b = parallel_is es s c.entry-scope.result c.entry-scope.ensures in
-    let out = ap (λ (x : Entry). x.outward) c.entry-scope.ensures in
-    let within = ap (λ (x : Entry). x.within) c.entry-task.ensures ∙ ap (frames es).within out in
+    let size = length c.args.self.now.lent.now in
+    let b = parallel_is es s c.at-scope.result c.at-scope.ensures in
+    let out = ap (λ (x : Entry). x.outward) c.at-scope.ensures in
+    let within = ap (λ (x : Entry). x.within) c.at-task.ensures ∙ ap (frames es).within out in
     let task = task_inside (frames es) (contents es) size s c.requires in
     let parallel = (parallel_linkable (frames es) (contents es) size s c.requires).inside in
     record {
@@ -84,12 +85,12 @@ pub returns-in-Task : goal.returns-in-Task
 returns-in-Task c =
     let es : List Entry = entries c.args.self.now in
     let s = c.args.s in
-    let a = serial_is es s c.entry-scope.result c.entry-scope.ensures in
-    let b = parallel_is es s c.entry-scope.result c.entry-scope.ensures in
-    let out = ap (λ (x : Entry). x.outward) c.entry-scope.ensures in
+    let a = serial_is es s c.at-scope.result c.at-scope.ensures in
+    let b = parallel_is es s c.at-scope.result c.at-scope.ensures in
+    let out = ap (λ (x : Entry). x.outward) c.at-scope.ensures in
     let root = c.link-root.ensures.answer ∙ (λ j. winner (forest es) (a j) (b j)) in
     let links = c.link-root.ensures.bags ∙ (λ j. joined (contents es) (a j) (b j)) in
-    let kind = sym (ap (λ (x : Entry). x.kind) c.entry-scope.ensures) ∙ c.in-Task.is in
+    let kind = sym (ap (λ (x : Entry). x.kind) c.at-scope.ensures) ∙ c.in-Task.is in
     record {
       bags = c.pour.ensures.bags ∙ (λ j. poured (links j) (2 * out j + 1) (root j)) ∙ sym (ap (λ (k : Kind). poured_by k (frames es) (contents es) s) kind);
       scopes = c.pour.ensures.scopes ∙ c.link-root.ensures.scopes;
@@ -100,10 +101,10 @@ pub returns-then-scope-ne0 : goal.returns-then-scope-ne0
 returns-then-scope-ne0 c =
     let es : List Entry = entries c.args.self.now in
     let s = c.args.s in
-    let b = parallel_is es s c.entry-scope.result c.entry-scope.ensures in
-    let out = ap (λ (x : Entry). x.outward) c.entry-scope.ensures in
-    let within = ap (λ (x : Entry). x.within) c.entry-task.ensures ∙ ap (frames es).within out in
-    let kind = sym (ap (λ (x : Entry). x.kind) c.entry-scope.ensures) ∙ c.in-Finish.is in
+    let b = parallel_is es s c.at-scope.result c.at-scope.ensures in
+    let out = ap (λ (x : Entry). x.outward) c.at-scope.ensures in
+    let within = ap (λ (x : Entry). x.within) c.at-task.ensures ∙ ap (frames es).within out in
+    let kind = sym (ap (λ (x : Entry). x.kind) c.at-scope.ensures) ∙ c.in-Finish.is in
     record {
       bags =
           c.pour-then-scope-ne0.ensures.bags ∙ (λ j. poured (contents es) (2 * within j) (b j))
@@ -116,8 +117,8 @@ pub returns-else-scope-ne0 : goal.returns-else-scope-ne0
 returns-else-scope-ne0 c =
     let es : List Entry = entries c.args.self.now in
     let s = c.args.s in
-    let b = parallel_is es s c.entry-scope.result c.entry-scope.ensures in
-    let kind = sym (ap (λ (x : Entry). x.kind) c.entry-scope.ensures) ∙ c.in-Finish.is in
+    let b = parallel_is es s c.at-scope.result c.at-scope.ensures in
+    let kind = sym (ap (λ (x : Entry). x.kind) c.at-scope.ensures) ∙ c.in-Finish.is in
     record {
       bags = sym (ap (λ (k : Kind). poured_by k (frames es) (contents es) s) kind ∙ cond-true (eqb ((contents es).head (2 * s + 1)) 0) _ _ (eq-eqb ((contents es).head (2 * s + 1)) 0 (omega arith)));
       scopes = refl;

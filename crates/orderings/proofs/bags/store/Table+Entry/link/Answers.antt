@@ -2,9 +2,10 @@ use Rattle.std.proofs.Common.{◌≡◌, ℕ, ◌+◌, ◌-◌, ◌<◌, ◌≤�
 use Rattle.std.proofs.lemmas.Bool.{ne_eqb, eq-eqb, lt-ltb, le-ltb}
 use Rattle.orderings.specs.declared.bags.entry.Entry.{Entry}
 use Rattle.orderings.specs.Forest.{Forest, winner, linked, under, risen, upd}
-use Rattle.orderings.specs.Store.{empty, entries, contents, forest, frames}
+use Rattle.orderings.specs.Store.{empty, contents, forest, frames}
+use Rattle.orderings.specs.Table.{entries}
 use Rattle.orderings.proofs.Entries.{table_at, table_set, with_parent, with_rank, parent_set, rank_set, frames_kept}
-use Rattle.orderings.proofs.bags.store.Store.link.Goals as goal
+use Rattle.orderings.proofs.bags.store.Table+Entry.link.Goals as goal
 
 -- the ways to link two elements
 module _ (f : Forest) (a b : ℕ) (na : a ≢ 0) (nb : b ≢ 0) where
@@ -20,10 +21,10 @@ returns-then-ours-theirs c =
     let a = c.args.a in
     let b = c.args.b in
     let es : List Entry = entries s in
-    let ra = ap (λ (x : Entry). x.rank) (table_at s.main s.table.now a (omega arith)) in
-    let rb = ap (λ (x : Entry). x.rank) (table_at s.main s.table.now b (omega arith)) in
+    let ra = ap (λ (x : Entry). x.rank) (table_at s.main s.lent.now a (omega arith)) in
+    let rb = ap (λ (x : Entry). x.rank) (table_at s.main s.lent.now b (omega arith)) in
     let way = under_wins (forest es) a b c.if-a-eq0.false c.if-b-eq0.false (omega arith) in
-    let put = table_set s.main s.table.now a (with_parent b) (omega arith) in
+    let put = table_set s.main s.lent.now a (with_parent b) (omega arith) in
     record {
       answer = sym way.0;
       bags = ap contents put ∙ parent_set es a (omega arith) b ∙ (λ j. record { forest = sym way.1 j; bag = (contents es).bag; head = (contents es).head });
@@ -37,7 +38,7 @@ returns-then-ours-theirs-2 c =
     let a = c.args.a in
     let b = c.args.b in
     let m = s.main in
-    let t : List Entry = s.table.now in
+    let t : List Entry = s.lent.now in
     let u : List Entry = set t (b - 1) (with_parent a (get_or t (b - 1) empty)) in
     let es : List Entry = entries s in
     let len : length u ≡ length t = length-set t (b - 1) _ in
@@ -65,11 +66,11 @@ returns-else-ours-theirs-2 c =
     let a = c.args.a in
     let b = c.args.b in
     let es : List Entry = entries s in
-    let ra = ap (λ (x : Entry). x.rank) (table_at s.main s.table.now a (omega arith)) in
-    let rb = ap (λ (x : Entry). x.rank) (table_at s.main s.table.now b (omega arith)) in
+    let ra = ap (λ (x : Entry). x.rank) (table_at s.main s.lent.now a (omega arith)) in
+    let rb = ap (λ (x : Entry). x.rank) (table_at s.main s.lent.now b (omega arith)) in
     let way = over_wins (forest es) a b c.if-a-eq0.false c.if-b-eq0.false (omega arith) in
     let odd = ne_eqb ((forest es).rank a) ((forest es).rank b) (omega arith) in
-    let put = table_set s.main s.table.now b (with_parent a) (omega arith) in
+    let put = table_set s.main s.lent.now b (with_parent a) (omega arith) in
     let risen-is : risen (forest es) a b ≡ under (forest es) b a = rw odd in
     record {
       answer = sym way.0;
