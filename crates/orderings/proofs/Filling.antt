@@ -38,8 +38,9 @@ module _ (es : List Entry) (m : Entry) (t : List Entry) (a x r k : ℕ) (links :
     inside : k / 2 < length (m ∷ numbered t r k)
     inside = let size = length-set t (r - 1) (with_bag k (get_or t (r - 1) empty)) in omega arith
 
-    pub put_filled : us ≡ set (m ∷ numbered t r k) (k / 2) (with_head k r (entry_at (m ∷ numbered t r k) (k / 2))) → a ≡ head es k → (contents us ≡ poured (contents es) k x) × (frames us ≡ frames es)
+    pub put_filled : us ≡ set (m ∷ numbered t r k) (k / 2) (with_head k r (entry_at (m ∷ numbered t r k) (k / 2))) → a ≡ head es k → (contents us ≡ poured (contents es) k x) × (frames us ≡ frames es) × (length us ≡ length (m ∷ t))
     put_filled e a-is = (
       filled (contents es) _ (contents us) a x r k numbered_is (ap contents e ∙ head_put (m ∷ numbered t r k) (k / 2) inside r k refl) a-is r-is,
       ap frames e ∙ frames_kept (m ∷ numbered t r k) (k / 2) _ inside refl refl refl ∙ numbered_frames,
+      (let size = ap length e ∙ length-set (m ∷ numbered t r k) (k / 2) _ in let same = length-set t (r - 1) (with_bag k (get_or t (r - 1) empty)) in omega arith),
     )

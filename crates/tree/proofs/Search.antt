@@ -9,7 +9,8 @@ use Rattle.tree.specs.declared.Tree.{Tree}
 use Rattle.orderings.specs.Meaning.{asked}
 use Rattle.orderings.specs.Store.{chain}
 use Rattle.tree.specs.Ancestors.{on}
-use Rattle.tree.specs.Nodes.{all, marks, Turns, SoundTree}
+use Rattle.orderings.specs.Table.{entries}
+use Rattle.tree.specs.Nodes.{marks, Turns, SoundTree}
 use Rattle.tree.specs.ProgramTree.{tree, place_of, meaning, OpenAbove, word_under, Query, Closed, side_of, Within3Log, Within48}
 use Rattle.orderings.proofs.Placed.{asked_task}
 use Rattle.tree.specs.Chains.{above_on}
@@ -20,7 +21,7 @@ use Rattle.tree.proofs.Sides.{found}
 use Rattle.tree.proofs.Turns.{enough, turns_side}
 
 module _ (t : Tree) where
-  pub sound_of : SoundTree (tree t) (marks (all t.nodes)) t.scopes.begun t.scopes.inner t.scopes.count
+  pub sound_of : SoundTree (tree t) (marks (entries t.nodes)) t.scopes.begun t.scopes.inner t.scopes.count
   sound_of = reveal_tree t.sound
 
   pub opens : OpenAbove t
@@ -30,7 +31,7 @@ module _ (t : Tree) where
   closed_off x c = not_above (tree t).outward t.scopes.begun sound_of.framed.inward x t.scopes.inner t.scopes.innermost c.shut
 
   -- a scope begun that is not live is closed
-  pub not_live : (x : ℕ) → x < t.scopes.begun → (marks (all t.nodes)).live x ≡ false → Closed t x
+  pub not_live : (x : ℕ) → x < t.scopes.begun → (marks (entries t.nodes)).live x ≡ false → Closed t x
   not_live x l c = record {
     begun = l;
     shut = λ above. true_false _ (above_on (tree t).outward t.scopes.begun sound_of.framed.inward x t.scopes.inner t.scopes.innermost above) (sym (sound_of.marked.lives x l) ∙ c);
@@ -47,9 +48,9 @@ module _ (t : Tree) where
   within_3_log r few x c =
       let s = sound_of in
       let off = closed_off x c in
-      let end = enough (tree t) (marks (all t.nodes)) t.scopes.begun t.scopes.inner s.framed t.scopes.innermost s.marked r few x c.begun (s.marked.lives x c.begun ∙ off) in
-      let at = turns_side (tree t) (marks (all t.nodes)) t.scopes.begun t.scopes.inner s.framed t.scopes.innermost s.marked end.0 x end.2 end.3 c.begun off in
-      (end.0, end.1, subst (Turns (tree t) (marks (all t.nodes)) end.0 x) at end.3)
+      let end = enough (tree t) (marks (entries t.nodes)) t.scopes.begun t.scopes.inner s.framed t.scopes.innermost s.marked r few x c.begun (s.marked.lives x c.begun ∙ off) in
+      let at = turns_side (tree t) (marks (entries t.nodes)) t.scopes.begun t.scopes.inner s.framed t.scopes.innermost s.marked end.0 x end.2 end.3 c.begun off in
+      (end.0, end.1, subst (Turns (tree t) (marks (entries t.nodes)) end.0 x) at end.3)
 
   pub within_48 : Within48 t
   within_48 = let most : 2 ^ 16 ≡ 65536 = refl in let few = begun_few t.scopes in within_3_log 16 (omega arith)
@@ -58,7 +59,7 @@ module _ (t : Tree) where
   abbrev Answers : ℕ → Word → Type 0
   Answers x w = (asked (meaning t).begun x ≡ Ok w) × Query t x w
 
-  pub answers_open : (x : ℕ) → x < t.scopes.begun → (tree t).kind x ≡ Task → (marks (all t.nodes)).live x ≡ true → Answers x Before
+  pub answers_open : (x : ℕ) → x < t.scopes.begun → (tree t).kind x ≡ Task → (marks (entries t.nodes)).live x ≡ true → Answers x Before
   answers_open x l task live =
       let fr = tree t in
       let o = sym (sound_of.marked.lives x l) ∙ live in

@@ -10,11 +10,12 @@ use Rattle.orderings.specs.Meaning.{Meaning}
 use Rattle.orderings.specs.Store.{Frames, chain}
 use Rattle.orderings.specs.Placed.{placed}
 use Rattle.tree.specs.Ancestors.{Above, ChildTowards, on, side}
-use Rattle.tree.specs.Nodes.{all, shape, marks, Turns}
+use Rattle.orderings.specs.Table.{entries}
+use Rattle.tree.specs.Nodes.{shape, marks, Turns}
 
 -- the scopes, each within its parent
 abbrev pub tree : Tree → Frames
-tree t = shape (all t.nodes)
+tree t = shape (entries t.nodes)
 
 -- the tasks under b, which is closed while its parent is open: unordered at the parent if b is a task, else before at the innermost task there
 abbrev pub place_by : Kind → ℕ → ℕ → Place
@@ -30,7 +31,7 @@ place_of fr n y x = cond (on (chain fr.outward n y) x) (before x) (place_under f
 
 -- what the tree means: the scopes open are the chain up from the innermost one, and each task has that place
 abbrev pub meaning : Tree → Meaning
-meaning t = placed (tree t) (place_of (tree t) t.scopes.begun t.scopes.inner) (length t.nodes.table.now) t.scopes.begun t.scopes.inner
+meaning t = placed (tree t) (place_of (tree t) t.scopes.begun t.scopes.inner) (length t.nodes.lent.now) t.scopes.begun t.scopes.inner
 
 -- the scope s is on a list of open scopes
 abbrev pub Has : List Scope → ℕ → Type 0
@@ -68,7 +69,7 @@ side_of t x = side (tree t).outward t.scopes.begun t.scopes.inner x
 
 -- each search from a closed scope finds the child on its side in so many turns at most
 abbrev pub Within : ℕ → Tree → Type 0
-Within most t = (x : ℕ) → Closed t x → (k : ℕ) × (k ≤ most) × Turns (tree t) (marks (all t.nodes)) k x (side_of t x)
+Within most t = (x : ℕ) → Closed t x → (k : ℕ) × (k ≤ most) × Turns (tree t) (marks (entries t.nodes)) k x (side_of t x)
 
 -- 48 turns are enough in any table
 abbrev pub Within48 : Tree → Type 0

@@ -2,14 +2,13 @@
 #![tactic(auto)]
 
 ghost use Rattle.std.specs.Prelude.{◌≡◌, min, length};
-ghost use Rattle.tree.specs.Nodes.{all, shape, marks, SoundTree};
+ghost use Rattle.orderings.specs.Table.{entries};
+ghost use Rattle.tree.specs.Nodes.{shape, marks, SoundTree};
 
-use crate::nodes::Nodes;
-use orderings::Scopes;
+use orderings::{Scopes, Table};
 
 mod calls;
 mod node;
-mod nodes;
 mod ordering;
 
 pub use node::Node;
@@ -18,8 +17,8 @@ pub use node::Node;
 /// the innermost one and its ancestors.
 #[derive(Drop)]
 pub struct Tree<'t> {
-    nodes: Nodes<'t>,
+    nodes: Table<'t, Node>,
     scopes: Scopes,
-    ghost numbers: { scopes.numbers ≡ min (length nodes.table.now) 65535 },
-    ghost sound: { ∥ SoundTree (shape (all nodes)) (marks (all nodes)) scopes.begun scopes.inner scopes.count ∥₁ },
+    ghost numbers: { scopes.numbers ≡ min (length nodes.lent.now) 65535 },
+    ghost sound: { ∥ SoundTree (shape (entries nodes)) (marks (entries nodes)) scopes.begun scopes.inner scopes.count ∥₁ },
 }

@@ -29,7 +29,7 @@ impl<'t> Ordering for Tree<'t> {
     }
 
     fn innermost_task(&self) -> u32 {
-        self.nodes.node(self.scopes.innermost()).within
+        self.node(self.scopes.innermost()).within
     }
 
     fn open_count(&self) -> u32 {
@@ -39,7 +39,7 @@ impl<'t> Ordering for Tree<'t> {
     fn kind_of(&self, number: u32) -> Option<Kind> {
         // Not by `then`: its closure would need a contract written out.
         if number < self.scopes.begun() {
-            Some(self.nodes.node(number).kind)
+            Some(self.node(number).kind)
         } else {
             None
         }

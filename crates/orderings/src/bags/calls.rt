@@ -19,10 +19,7 @@ impl<'t> Bags<'t> {
     {
         let scopes = Scopes::new(table.len());
         Bags {
-            store: Table {
-                main: Entry::EMPTY,
-                lent: table,
-            },
+            store: Table::new(Entry::EMPTY, table),
             scopes,
         }
     }
@@ -41,12 +38,11 @@ impl Bags<'_> {
         if task == 0 {
             return Ok(Word::Before);
         }
-        let kind = self.store.lent[task as usize - 1].kind;
-        match kind {
+        match self.store.at(task).kind {
             Kind::Finish => Err(Fault::NoSuchTask),
             Kind::Task => {
                 let root = self.root(task);
-                if self.store.lent[root as usize - 1].bag % 2 == 0 {
+                if self.store.at(root).bag % 2 == 0 {
                     Ok(Word::Before)
                 } else {
                     Ok(Word::Unordered)
@@ -62,7 +58,7 @@ impl Bags<'_> {
     {
         let mut at = x;
         for _ in 0..16u32 {
-            let parent = self.store.lent[at as usize - 1].parent;
+            let parent = self.store.at(at).parent;
             if parent == at {
                 return at;
             }
@@ -81,16 +77,19 @@ impl Bags<'_> {
         let scopes = self.scopes.opened()?;
         let number = scopes.innermost();
         let within = scopes.within(kind, self.store.at(outward).within);
-        self.store.lent[number as usize - 1] = Entry {
-            kind,
-            rank: 0,
-            parent: number,
-            bag: 2 * number,
-            outward,
-            within,
-            serial: number,
-            parallel: 0,
-        };
+        self.store.set_entry(
+            number,
+            Entry {
+                kind,
+                rank: 0,
+                parent: number,
+                bag: 2 * number,
+                outward,
+                within,
+                serial: number,
+                parallel: 0,
+            },
+        );
         self.scopes = scopes;
         Ok(number)
     }

@@ -59,11 +59,9 @@ impl Table<'_, Entry> {
         let scope = bag / 2;
         let root = self.link(self.at(scope).head(bag), x);
         self.lent[root as usize - 1].bag = bag;
-        if scope == 0 {
-            self.main.set_head(bag, root);
-        } else {
-            self.lent[scope as usize - 1].set_head(bag, root);
-        }
+        let mut entry = self.at(scope);
+        entry.set_head(bag, root);
+        self.set_entry(scope, entry);
     }
 
     /// Pours out the bags of the scope s, which closes.

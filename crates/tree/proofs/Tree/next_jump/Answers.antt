@@ -2,16 +2,17 @@ use Rattle.std.proofs.Common.{◌≡◌, ℕ, ◌<◌, ◌≤◌, ap, ◌∙◌,
 use Rattle.orderings.proofs.Numbers.{begun_room}
 use Rattle.tree.specs.declared.Tree.{Tree}
 use Rattle.tree.specs.declared.node.Node.{Node}
-use Rattle.tree.specs.Nodes.{all, node_at, Marks, marks}
+use Rattle.orderings.specs.Table.{entries}
+use Rattle.tree.specs.Nodes.{node_at, Marks, marks}
 use Rattle.tree.specs.ProgramTree.{tree}
 use Rattle.tree.proofs.Jumps.{leads}
 use Rattle.tree.specs.Props.{reveal_tree}
 use Rattle.tree.proofs.Tree.next_jump.Goals as goal
 
 -- the jump of the node read at s leads up
-up : (t : Tree) (s : ℕ) (e : Node) → e ≡ node_at (all t.nodes) s → s < t.scopes.begun → (e.jump ≤ s) × ((f : Node) → f ≡ node_at (all t.nodes) e.jump → f.depth ≤ e.depth)
+up : (t : Tree) (s : ℕ) (e : Node) → e ≡ node_at (entries t.nodes) s → s < t.scopes.begun → (e.jump ≤ s) × ((f : Node) → f ≡ node_at (entries t.nodes) e.jump → f.depth ≤ e.depth)
 up t s e read l =
-    let m : Marks = marks (all t.nodes) in
+    let m : Marks = marks (entries t.nodes) in
     let to = leads (tree t) m t.scopes.begun t.scopes.inner (reveal_tree t.sound).framed (reveal_tree t.sound).marked s l in
     let jump : e.jump ≡ m.jump s = ap (λ (x : Node). x.jump) read in
     let depth : e.depth ≡ m.depth s = ap (λ (x : Node). x.depth) read in

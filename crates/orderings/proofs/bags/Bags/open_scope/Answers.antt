@@ -1,4 +1,4 @@
-use Rattle.std.proofs.Common.{◌≡◌, ℕ, ◌+◌, ◌-◌, ◌<◌, ◌≤◌, min, List, ◌∷◌, length, set, Ok, sym, ap, ◌∙◌, arith, length-set}
+use Rattle.std.proofs.Common.{◌≡◌, ℕ, ◌+◌, ◌-◌, ◌<◌, ◌≤◌, min, List, ◌∷◌, length, set, Ok, sym, ap, ◌∙◌, arith}
 use Rattle.orderings.specs.declared.words.Kind.{Kind}
 use Rattle.orderings.specs.declared.scopes.Scopes.{Scopes}
 use Rattle.orderings.specs.declared.bags.Bags.{Bags}
@@ -10,11 +10,11 @@ use Rattle.orderings.specs.Scopes.{Opened, task_within}
 use Rattle.orderings.specs.Sound.{Sound}
 use Rattle.orderings.specs.Bags.{place_of, meaning_of, meaning}
 use Rattle.orderings.specs.Props.{reveal}
-use Rattle.orderings.proofs.Entries.{table_set}
 use Rattle.orderings.proofs.Fresh.{fresh, sound_opened, meaning_opened}
 use Rattle.orderings.proofs.Making.{sound_at}
 use Rattle.orderings.proofs.Numbers.{begun_few}
 use Rattle.orderings.proofs.Placed.{opening_placed}
+use Rattle.orderings.proofs.Tables.{kept_size}
 use Rattle.orderings.proofs.bags.Bags.open_scope.Goals as goal
 
 -- the entry of the new scope, in the words of the scopes before
@@ -26,9 +26,6 @@ module _ (b : Bags) (k : Kind) (now : Scopes) (o : Opened b.scopes now) (number 
   abbrev es : List Entry
   es = entries b.store
 
-  abbrev us : List Entry
-  us = b.store.main ∷ set b.store.lent.now (number - 1) (fresh k number outward within)
-
   next : number ≡ n
   next = number-is ∙ o.inner
 
@@ -38,31 +35,29 @@ module _ (b : Bags) (k : Kind) (now : Scopes) (o : Opened b.scopes now) (number 
   free : n ≤ min (length b.store.lent.now) 65535
   free = let numbers = b.numbers in let free = o.free in omega arith
 
-  put : us ≡ set es n (fresh k n b.scopes.inner within)
-  put =
-      let inside = b.scopes.innermost in
-      (λ j. b.store.main ∷ set b.store.lent.now (next j - 1) (fresh k (next j) (outward-is j) within)) ∙ table_set b.store.main b.store.lent.now n (λ _. fresh k n b.scopes.inner within) (omega arith)
-
   room : n < length es
   room = let l = free in omega arith
 
-  sound_open : Sound (frames us) (contents us) now.begun now.inner now.count
-  sound_open = sound_at _ _ _ _ _ _ _ _ (sound_opened es n b.scopes.inner within k room b.scopes.count (reveal b.sound) (begun_few b.scopes) b.scopes.innermost way us put) o.begun o.inner o.count
+  module _ (us : List Entry) (written : us ≡ set es number (fresh k number outward within)) where
+    put : us ≡ set es n (fresh k n b.scopes.inner within)
+    put = written ∙ (λ j. set es (next j) (fresh k (next j) (outward-is j) within))
 
-  meaning_open : (size : ℕ) → size ≡ length b.store.lent.now → meaning_of (frames us) (contents us) size now.begun now.inner ≡ after_open k (meaning b)
-  meaning_open size e =
-      (λ j. meaning_of (frames us) (contents us) size (o.begun j) (o.inner j))
-      ∙ meaning_opened es n b.scopes.inner within k room b.scopes.count (reveal b.sound) (begun_few b.scopes) b.scopes.innermost way us put size (length b.store.lent.now) e
-      ∙ sym (opening_placed (frames es) (place_of (contents es)) (length b.store.lent.now) n b.scopes.inner k free).1
+    sound_open : Sound (frames us) (contents us) now.begun now.inner now.count
+    sound_open = sound_at _ _ _ _ _ _ _ _ (sound_opened es n b.scopes.inner within k room b.scopes.count (reveal b.sound) (begun_few b.scopes) b.scopes.innermost way us put) o.begun o.inner o.count
+
+    meaning_open : (size : ℕ) → size ≡ length b.store.lent.now → meaning_of (frames us) (contents us) size now.begun now.inner ≡ after_open k (meaning b)
+    meaning_open size e =
+        (λ j. meaning_of (frames us) (contents us) size (o.begun j) (o.inner j))
+        ∙ meaning_opened es n b.scopes.inner within k room b.scopes.count (reveal b.sound) (begun_few b.scopes) b.scopes.innermost way us put size (length b.store.lent.now) e
+        ∙ sym (opening_placed (frames es) (place_of (contents es)) (length b.store.lent.now) n b.scopes.inner k free).1
 
 pub invariant_of-self : goal.invariant_of-self
 invariant_of-self c =
     let b = c.args.self.now in
     let o = c.in_ok-scopes.ensures in
-    let size = length-set b.store.lent.now (c.innermost-number.result - 1) _ in
     record {
-      numbers = o.numbers ∙ b.numbers ∙ ap (λ (l : ℕ). min l 65535) (sym size);
-      sound = ∣ sound_open b c.args.kind c.in_ok-scopes.scopes o _ _ _ c.at.result c.innermost-number.ensures c.innermost-outward.ensures c.at.ensures c.within-within.ensures ∣₁;
+      numbers = o.numbers ∙ b.numbers ∙ ap (λ (l : ℕ). min l 65535) (sym (kept_size b.store c.set_entry.new.self _ _ c.set_entry.ensures));
+      sound = ∣ sound_open b c.args.kind c.in_ok-scopes.scopes o _ _ _ c.at.result c.innermost-number.ensures c.innermost-outward.ensures c.at.ensures c.within-within.ensures _ c.set_entry.ensures ∣₁;
     }
 
 pub returns-clause-answer : goal.returns-clause-answer
@@ -76,4 +71,4 @@ pub returns-clause-after : goal.returns-clause-after
 returns-clause-after c =
     let b = c.args.self.now in
     let o = c.in_ok-scopes.ensures in
-    meaning_open b c.args.kind c.in_ok-scopes.scopes o _ _ _ c.at.result c.innermost-number.ensures c.innermost-outward.ensures c.at.ensures c.within-within.ensures _ (length-set b.store.lent.now (c.innermost-number.result - 1) _)
+    meaning_open b c.args.kind c.in_ok-scopes.scopes o _ _ _ c.at.result c.innermost-number.ensures c.innermost-outward.ensures c.at.ensures c.within-within.ensures _ c.set_entry.ensures _ (kept_size b.store c.set_entry.new.self _ _ c.set_entry.ensures)
