@@ -38,11 +38,12 @@ impl Bags<'_> {
         if task == 0 {
             return Ok(Word::Before);
         }
-        match self.store.at(task).kind {
+        let kind = self.store.lent[task as usize - 1].kind;
+        match kind {
             Kind::Finish => Err(Fault::NoSuchTask),
             Kind::Task => {
                 let root = self.root(task);
-                if self.store.at(root).bag % 2 == 0 {
+                if self.store.lent[root as usize - 1].bag % 2 == 0 {
                     Ok(Word::Before)
                 } else {
                     Ok(Word::Unordered)
@@ -58,7 +59,7 @@ impl Bags<'_> {
     {
         let mut at = x;
         for _ in 0..16u32 {
-            let parent = self.store.at(at).parent;
+            let parent = self.store.lent[at as usize - 1].parent;
             if parent == at {
                 return at;
             }

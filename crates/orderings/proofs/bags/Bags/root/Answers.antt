@@ -3,6 +3,7 @@ use Rattle.orderings.specs.declared.bags.entry.Entry.{Entry}
 use Rattle.orderings.specs.Forest.{Forest, climb}
 use Rattle.orderings.specs.Store.{forest}
 use Rattle.orderings.specs.Table.{entries}
+use Rattle.orderings.proofs.Entries.{table_at}
 use Rattle.orderings.proofs.Climbs.{climb_top, climb_up}
 use Rattle.orderings.proofs.Forests.{rank_low}
 use Rattle.orderings.specs.Props.{reveal}
@@ -14,7 +15,7 @@ returns-then-parent-at c =
     let b = c.args.self.now in
     let at = c.loop.at in
     let f : Forest = forest (entries b.store) in
-    let read = ap (λ (e : Entry). e.parent) c.at-parent.ensures in
+    let read = ap (λ (e : Entry). e.parent) (table_at b.store.main b.store.lent.now at c.loop.invariant.0) in
     sym (climb_top f.parent (16 - c.loop.counter) at (sym read ∙ c.if-parent-at.true)) ∙ c.loop.invariant.3
 
 pub loop-preserved : goal.loop-preserved
@@ -22,7 +23,7 @@ loop-preserved c =
     let b = c.args.self.now in
     let at = c.loop.at in
     let f : Forest = forest (entries b.store) in
-    let read = ap (λ (e : Entry). e.parent) c.at-parent.ensures in
+    let read = ap (λ (e : Entry). e.parent) (table_at b.store.main b.store.lent.now at c.loop.invariant.0) in
     let grown = (reveal b.sound).grown in
     let other : f.parent at ≢ at = λ e. c.if-parent-at.false (read ∙ e) in
     let rise = grown.rises at c.loop.invariant.1 other in
