@@ -19,10 +19,6 @@ table_at m t i = entry_read m t i empty
 pub table_set : (m : Entry) (t : List Entry) (i : ℕ) (f : Entry → Entry) → 0 < i → m ∷ set t (i - 1) (f (get_or t (i - 1) empty)) ≡ set (m ∷ t) i (f (entry_at (m ∷ t) i))
 table_set m t i f = entry_write m t i empty f
 
-pub main_set : (m : Entry) (t : List Entry) (i : ℕ) (f : Entry → Entry) → i ≡ 0 → f m ∷ t ≡ set (m ∷ t) i (f (entry_at (m ∷ t) i))
-main_set m t zero f e = refl
-main_set m t (suc i) f e = absurd (omega arith)
-
 -- the heads of a scope's bags
 pub head_serial : (es : List Entry) (i : ℕ) → head es (2 * i) ≡ (entry_at es i).serial
 head_serial es i = let h : 2 * i / 2 ≡ i = omega arith in cond-true (eqb (2 * i % 2) 0) _ _ (eq-eqb (2 * i % 2) 0 (omega arith)) ∙ ap (λ (k : ℕ). (entry_at es k).serial) h

@@ -74,10 +74,6 @@ opening_placed fr place cap n s k free =
       cond-false (eqb (min cap 65535 + 1 - n) 0) _ _ some,
     )
 
--- with main alone a close is refused
-pub closing_alone : (m : Meaning) → length m.opened ≤ 1 → (closing m ≡ Err MainAlone) × (after_close m ≡ m)
-closing_alone m l = let e = le-leb (length m.opened) 1 l in (cond-true (leb (length m.opened) 1) _ _ e, cond-true (leb (length m.opened) 1) _ _ e)
-
 -- the step of a close of the scope s: each task moves as the meaning says
 module _ (fr : Frames) (place : ℕ → Place) (cap n s : ℕ) (w : Framed fr n) (inside : s < n) (more : 1 < length (chain fr.outward n s)) where
   abbrev ss : List Scope

@@ -75,12 +75,13 @@ impl Table<'_, Entry> {
         match scope.kind {
             Kind::Task => {
                 let root = self.link(scope.serial, scope.parallel);
-                self.pour(2 * scope.outward + 1, root);
+                let bag = 2 * scope.outward + 1;
+                self.pour(bag, root);
             }
             Kind::Finish => {
                 if scope.parallel != 0 {
-                    let task = self.at(scope.outward).within;
-                    self.pour(2 * task, scope.parallel);
+                    let bag = 2 * self.at(scope.outward).within;
+                    self.pour(bag, scope.parallel);
                 }
             }
         }

@@ -30,22 +30,22 @@ link-root-requires c =
     let parallel-in = parallel.inside in
     record { a_in_bounds = (omega arith, omega arith); a_bound = λ p. subst (λ (x : ℕ). (forest es).rank x < 255) (sym a) (serial.low (omega arith)) }
 
-pub overflow_mul-scope : goal.overflow_mul-scope
-overflow_mul-scope c =
+pub overflow_mul-bag : goal.overflow_mul-bag
+overflow_mul-bag c =
     let out = ap (λ (x : Entry). x.outward) c.at-scope.ensures in
     let outer = outer_inside _ _ _ c.args.s c.requires in
     omega arith
 
-pub overflow_add-scope : goal.overflow_add-scope
-overflow_add-scope c =
+pub overflow_add-bag : goal.overflow_add-bag
+overflow_add-bag c =
     let out = ap (λ (x : Entry). x.outward) c.at-scope.ensures in
     let outer = outer_inside _ _ _ c.args.s c.requires in
     omega arith
 
-pub overflow_mul-task : goal.overflow_mul-task
-overflow_mul-task c =
+pub overflow_mul-bag-then-scope-ne0 : goal.overflow_mul-bag-then-scope-ne0
+overflow_mul-bag-then-scope-ne0 c =
     let es : List Entry = entries c.args.self.now in
-    let within = ap (λ (x : Entry). x.within) c.at-task.ensures ∙ ap (frames es).within (ap (λ (x : Entry). x.outward) c.at-scope.ensures) in
+    let within = ap (λ (x : Entry). x.within) c.at-bag.ensures ∙ ap (frames es).within (ap (λ (x : Entry). x.outward) c.at-scope.ensures) in
     let task = task_inside _ _ _ c.args.s c.requires in
     omega arith
 
@@ -73,7 +73,7 @@ pour-requires-then-scope-ne0 c =
     let size = length c.args.self.now.lent.now in
     let b = parallel_is es s c.at-scope.result c.at-scope.ensures in
     let out = ap (λ (x : Entry). x.outward) c.at-scope.ensures in
-    let within = ap (λ (x : Entry). x.within) c.at-task.ensures ∙ ap (frames es).within out in
+    let within = ap (λ (x : Entry). x.within) c.at-bag.ensures ∙ ap (frames es).within out in
     let task = task_inside (frames es) (contents es) size s c.requires in
     let parallel = (parallel_linkable (frames es) (contents es) size s c.requires).inside in
     record {
@@ -81,8 +81,8 @@ pour-requires-then-scope-ne0 c =
       linkable = linkable_same _ _ _ _ _ _ refl (ap (λ (x : ℕ). 2 * x) within) refl (task_linkable (frames es) (contents es) size s c.requires);
     }
 
-pub returns-in-Task : goal.returns-in-Task
-returns-in-Task c =
+pub returns-in-Task-clause-bags : goal.returns-in-Task-clause-bags
+returns-in-Task-clause-bags c =
     let es : List Entry = entries c.args.self.now in
     let s = c.args.s in
     let a = serial_is es s c.at-scope.result c.at-scope.ensures in
@@ -91,36 +91,23 @@ returns-in-Task c =
     let root = c.link-root.ensures.answer ∙ (λ j. winner (forest es) (a j) (b j)) in
     let links = c.link-root.ensures.bags ∙ (λ j. joined (contents es) (a j) (b j)) in
     let kind = sym (ap (λ (x : Entry). x.kind) c.at-scope.ensures) ∙ c.in-Task.is in
-    record {
-      bags = c.pour.ensures.bags ∙ (λ j. poured (links j) (2 * out j + 1) (root j)) ∙ sym (ap (λ (k : Kind). poured_by k (frames es) (contents es) s) kind);
-      scopes = c.pour.ensures.scopes ∙ c.link-root.ensures.scopes;
-      size = c.pour.ensures.size ∙ c.link-root.ensures.size;
-    }
+    c.pour.ensures.bags ∙ (λ j. poured (links j) (2 * out j + 1) (root j)) ∙ sym (ap (λ (k : Kind). poured_by k (frames es) (contents es) s) kind)
 
-pub returns-then-scope-ne0 : goal.returns-then-scope-ne0
-returns-then-scope-ne0 c =
+pub returns-then-scope-ne0-clause-bags : goal.returns-then-scope-ne0-clause-bags
+returns-then-scope-ne0-clause-bags c =
     let es : List Entry = entries c.args.self.now in
     let s = c.args.s in
     let b = parallel_is es s c.at-scope.result c.at-scope.ensures in
     let out = ap (λ (x : Entry). x.outward) c.at-scope.ensures in
-    let within = ap (λ (x : Entry). x.within) c.at-task.ensures ∙ ap (frames es).within out in
+    let within = ap (λ (x : Entry). x.within) c.at-bag.ensures ∙ ap (frames es).within out in
     let kind = sym (ap (λ (x : Entry). x.kind) c.at-scope.ensures) ∙ c.in-Finish.is in
-    record {
-      bags =
-          c.pour-then-scope-ne0.ensures.bags ∙ (λ j. poured (contents es) (2 * within j) (b j))
-          ∙ sym (ap (λ (k : Kind). poured_by k (frames es) (contents es) s) kind ∙ cond-false (eqb ((contents es).head (2 * s + 1)) 0) _ _ (ne_eqb ((contents es).head (2 * s + 1)) 0 (omega arith)));
-      scopes = c.pour-then-scope-ne0.ensures.scopes;
-      size = c.pour-then-scope-ne0.ensures.size;
-    }
+    c.pour-then-scope-ne0.ensures.bags ∙ (λ j. poured (contents es) (2 * within j) (b j))
+          ∙ sym (ap (λ (k : Kind). poured_by k (frames es) (contents es) s) kind ∙ cond-false (eqb ((contents es).head (2 * s + 1)) 0) _ _ (ne_eqb ((contents es).head (2 * s + 1)) 0 (omega arith)))
 
-pub returns-else-scope-ne0 : goal.returns-else-scope-ne0
-returns-else-scope-ne0 c =
+pub returns-else-scope-ne0-clause-bags : goal.returns-else-scope-ne0-clause-bags
+returns-else-scope-ne0-clause-bags c =
     let es : List Entry = entries c.args.self.now in
     let s = c.args.s in
     let b = parallel_is es s c.at-scope.result c.at-scope.ensures in
     let kind = sym (ap (λ (x : Entry). x.kind) c.at-scope.ensures) ∙ c.in-Finish.is in
-    record {
-      bags = sym (ap (λ (k : Kind). poured_by k (frames es) (contents es) s) kind ∙ cond-true (eqb ((contents es).head (2 * s + 1)) 0) _ _ (eq-eqb ((contents es).head (2 * s + 1)) 0 (omega arith)));
-      scopes = refl;
-      size = refl;
-    }
+    sym (ap (λ (k : Kind). poured_by k (frames es) (contents es) s) kind ∙ cond-true (eqb ((contents es).head (2 * s + 1)) 0) _ _ (eq-eqb ((contents es).head (2 * s + 1)) 0 (omega arith)))
