@@ -1,5 +1,4 @@
 use Rattle.std.proofs.Common.{◌≡◌, ℕ, ◌<◌, ◌≤◌, ap, ◌∙◌, arith}
-use Rattle.orderings.proofs.Numbers.{begun_room}
 use Rattle.tree.specs.declared.Tree.{Tree}
 use Rattle.tree.specs.declared.node.Node.{Node}
 use Rattle.orderings.specs.Table.{entries}
@@ -25,23 +24,21 @@ begun t s e = let inside = t.scopes.innermost in omega arith
 pub node-far-requires : goal.node-far-requires
 node-far-requires c =
     let t = c.args.self.now in
-    let room = begun_room t.scopes _ t.numbers in
-    let one = (up t c.innermost-inner.result c.node-parent.result c.node-parent.ensures (begun c.args.self.now _ c.innermost-inner.ensures)).0 in
+    let one = (up t c.innermost-inner.result c.node-parent.result c.node-parent.ensures (begun t _ c.innermost-inner.ensures)).0 in
     omega arith
 
 pub node-farther-requires : goal.node-farther-requires
 node-farther-requires c =
     let t = c.args.self.now in
-    let room = begun_room t.scopes _ t.numbers in
-    let one = (up t c.innermost-inner.result c.node-parent.result c.node-parent.ensures (begun c.args.self.now _ c.innermost-inner.ensures)).0 in
+    let one = (up t c.innermost-inner.result c.node-parent.result c.node-parent.ensures (begun t _ c.innermost-inner.ensures)).0 in
     let two = (up t c.node-parent.result.jump c.node-far.result c.node-far.ensures (omega arith)).0 in
     omega arith
 
 pub overflow_sub-parent : goal.overflow_sub-parent
-overflow_sub-parent c = let t = c.args.self.now in (up t c.innermost-inner.result c.node-parent.result c.node-parent.ensures (begun c.args.self.now _ c.innermost-inner.ensures)).1 c.node-far.result c.node-far.ensures
+overflow_sub-parent c = let t = c.args.self.now in (up t c.innermost-inner.result c.node-parent.result c.node-parent.ensures (begun t _ c.innermost-inner.ensures)).1 c.node-far.result c.node-far.ensures
 
 pub overflow_sub-far : goal.overflow_sub-far
 overflow_sub-far c =
     let t = c.args.self.now in
-    let one = (up t c.innermost-inner.result c.node-parent.result c.node-parent.ensures (begun c.args.self.now _ c.innermost-inner.ensures)).0 in
+    let one = (up t c.innermost-inner.result c.node-parent.result c.node-parent.ensures (begun t _ c.innermost-inner.ensures)).0 in
     (up t c.node-parent.result.jump c.node-far.result c.node-far.ensures (omega arith)).1 c.node-farther.result c.node-farther.ensures

@@ -1,6 +1,5 @@
 use Rattle.std.proofs.Common.{◌≡◌, ℕ, ◌+◌, ◌<◌, ◌≤◌, false, sym, ap, ◌∙◌, subst, arith}
 use Rattle.std.proofs.lemmas.Bool.{cond-true, cond-false, cond_both}
-use Rattle.orderings.proofs.Numbers.{begun_room}
 use Rattle.tree.specs.declared.Tree.{Tree}
 use Rattle.tree.specs.declared.node.Node.{Node}
 use Rattle.orderings.specs.Table.{entries}
@@ -46,28 +45,16 @@ one_turn t x to b k i c left turns shut is =
 pub loop-init : goal.loop-init
 loop-init c = let end = within_48 c.args.self.now c.args.x c.requires in let most = end.1 in (c.requires, end.0, omega arith, end.2)
 
-pub node-node-requires : goal.node-node-requires
-node-node-requires c = let t = c.args.self.now in let room = begun_room t.scopes _ t.numbers in let l = c.loop.invariant.0.begun in omega arith
-
 pub node-above-requires : goal.node-above-requires
 node-above-requires c =
     let t = c.args.self.now in
-    let room = begun_room t.scopes _ t.numbers in
     let l = parent_begun t c.loop.at c.loop.invariant.0 in
     let read = ap (λ (e : Node). e.parent) c.node-node.ensures in
     omega arith
 
-pub returns-then-above : goal.returns-then-above
-returns-then-above c =
-    let t = c.args.self.now in
-    let inv = c.loop.invariant in
-    let read : c.node-above.result ≡ node_at (entries t.nodes) ((tree t).outward c.loop.at) = c.node-above.ensures ∙ ap (λ (e : Node). node_at (entries t.nodes) e.parent) c.node-node.ensures in
-    sym (ended (tree t) (marks (entries t.nodes)) inv.1 c.loop.at _ inv.3 (sym (ap (λ (e : Node). e.live) read) ∙ c.if-above.true))
-
 pub node-far-requires : goal.node-far-requires
 node-far-requires c =
     let t = c.args.self.now in
-    let room = begun_room t.scopes _ t.numbers in
     let l = jump_begun t c.loop.at c.loop.invariant.0 in
     let read = ap (λ (e : Node). e.jump) c.node-node.ensures in
     omega arith
@@ -87,10 +74,3 @@ loop-preserved c =
       | then-far v ↦ v.at-is ∙ ap (λ (e : Node). e.parent) node ∙ sym (cond-true (m.live (m.jump at)) _ _ (sym live ∙ v.if-far.true))
       | else-far v ↦ v.at-is ∙ ap (λ (e : Node). e.jump) node ∙ sym (cond-false (m.live (m.jump at)) _ _ (sym live ∙ v.if-far.false))
     ])
-
-pub unreachable-requires : goal.unreachable-requires
-unreachable-requires c =
-    let t = c.args.self.now in
-    let some = some_turn (tree t) (marks (entries t.nodes)) c.loop.invariant.1 c.loop.at _ c.loop.invariant.3 in
-    let left = c.loop.invariant.2 in
-    omega arith

@@ -3,7 +3,6 @@ use Rattle.orderings.specs.declared.words.Kind.TheVariants.{Task, Finish}
 use Rattle.orderings.specs.declared.words.Word.{Word}
 use Rattle.orderings.specs.declared.words.Fault.{Fault}
 use Rattle.orderings.specs.declared.words.Fault.TheVariants.{NoSuchTask}
-use Rattle.orderings.proofs.Numbers.{begun_room}
 use Rattle.tree.specs.declared.Tree.{Tree}
 use Rattle.tree.specs.declared.node.Node.{Node}
 use Rattle.tree.specs.ProgramTree.{tree, place_of, Query}
@@ -57,7 +56,6 @@ node-requires c =
     let t = c.args.self.now in
     let shut = not_live t c.args.task (let begun = c.begun.ensures in omega arith) (sym (ap (λ (e : Node). e.live) c.node-node.ensures) ∙ c.if-node.false) in
     let low = side_begun t c.args.task shut in
-    let room = begun_room t.scopes _ t.numbers in
     let is = c.side-side.ensures in
     omega arith
 
