@@ -1,12 +1,12 @@
 -- What a write to one entry changes.
-use Rattle.std.proofs.Common.{◌≡◌, ℕ, zero, suc, ◌+◌, ◌-◌, ◌*◌, ◌/◌, ◌%◌, ◌<◌, cond, eqb, ◌≢◌, List, ◌∷◌, length, get_or, set, sym, refl, ap, ◌∙◌, ⊎_elim, arith, get_or-set_other, get_or-set_same}
+use Rattle.std.proofs.Common.{◌≡◌, ℕ, zero, suc, ◌+◌, ◌-◌, ◌*◌, ◌/◌, ◌%◌, ◌<◌, cond, eqb, List, ◌∷◌, length, get_or, set, sym, refl, ap, ◌∙◌, ⊎_elim, arith}
 use mathlib.Core.Path.{fun_ext}
 use Rattle.std.proofs.lemmas.Bool.{eq-eqb, ne_eqb, cases_eq, cond-true, cond-false}
 use Rattle.std.proofs.lemmas.Bool.Decides.{nat_tests}
 use Rattle.orderings.specs.declared.bags.entry.Entry.{Entry}
 use Rattle.orderings.specs.Forest.{upd}
 use Rattle.orderings.specs.Store.{empty, entry_at, frames, forest, head_of, head, with_head, contents}
-use Rattle.orderings.proofs.Tables.{entry_read, entry_write}
+use Rattle.orderings.proofs.Tables.{here, there, column_kept}
 use Rattle.orderings.proofs.Sums.{upd_same, upd_other}
 
 upd_self : (g : ℕ → ℕ) (i v : ℕ) → v ≡ g i → upd g i v ≡ g
@@ -14,10 +14,12 @@ upd_self g i v e = fun_ext (λ y. ⊎_elim (λ q. upd_same g i v y q ∙ e ∙ a
 
 -- the table goes on from entry 1
 pub table_at : (m : Entry) (t : List Entry) (i : ℕ) → 0 < i → get_or t (i - 1) empty ≡ entry_at (m ∷ t) i
-table_at m t i = entry_read m t i empty
+table_at m t zero h = absurd (omega arith)
+table_at m t (suc i) h = let e : suc i - 1 ≡ i = omega arith in rw e
 
 pub table_set : (m : Entry) (t : List Entry) (i : ℕ) (f : Entry → Entry) → 0 < i → m ∷ set t (i - 1) (f (get_or t (i - 1) empty)) ≡ set (m ∷ t) i (f (entry_at (m ∷ t) i))
-table_set m t i f = entry_write m t i empty f
+table_set m t zero f h = absurd (omega arith)
+table_set m t (suc i) f h = let e : suc i - 1 ≡ i = omega arith in rw e
 
 -- the heads of a scope's bags
 pub head_serial : (es : List Entry) (i : ℕ) → head es (2 * i) ≡ (entry_at es i).serial
@@ -27,41 +29,27 @@ pub head_parallel : (es : List Entry) (i : ℕ) → head es (2 * i + 1) ≡ (ent
 head_parallel es i = let h : (2 * i + 1) / 2 ≡ i = omega arith in cond-false (eqb ((2 * i + 1) % 2) 0) _ _ (ne_eqb ((2 * i + 1) % 2) 0 (omega arith)) ∙ ap (λ (k : ℕ). (entry_at es k).parallel) h
 
 module _ (es : List Entry) (i : ℕ) (e : Entry) (h : i < length es) where
-  pub here : entry_at (set es i e) i ≡ e
-  here = get_or-set_same es i e empty h
-
-  pub there : (y : ℕ) → y ≢ i → entry_at (set es i e) y ≡ entry_at es y
-  there y = get_or-set_other es i y e empty
-
   column_set : (col : Entry → ℕ) → (λ (y : ℕ). col (entry_at (set es i e) y)) ≡ upd (λ y. col (entry_at es y)) i (col e)
   column_set col =
       fun_ext (λ y.
       ⊎_elim
-      (λ q. ap (λ (k : ℕ). col (entry_at (set es i e) k)) q ∙ ap col here ∙ sym (upd_same (λ y. col (entry_at es y)) i (col e) y q))
-      (λ q. ap col (there y q) ∙ sym (upd_other (λ y. col (entry_at es y)) i (col e) y q))
+      (λ q. ap (λ (k : ℕ). col (entry_at (set es i e) k)) q ∙ ap col (here empty es i e h) ∙ sym (upd_same (λ y. col (entry_at es y)) i (col e) y q))
+      (λ q. ap col (there empty es i e h y q) ∙ sym (upd_other (λ y. col (entry_at es y)) i (col e) y q))
       (cases_eq y i))
 
   head_set : head (set es i e) ≡ (λ (k : ℕ). cond (eqb (k / 2) i) (head_of e k) (head es k))
   head_set =
       fun_ext (λ k.
       ⊎_elim
-      (λ q. ap (λ (j : ℕ). head_of (entry_at (set es i e) j) k) q ∙ ap (λ (x : Entry). head_of x k) here ∙ sym (cond-true (eqb (k / 2) i) _ (head es k) (eq-eqb (k / 2) i q)))
-      (λ q. ap (λ (x : Entry). head_of x k) (there (k / 2) q) ∙ sym (cond-false (eqb (k / 2) i) (head_of e k) _ (ne_eqb (k / 2) i q)))
+      (λ q. ap (λ (j : ℕ). head_of (entry_at (set es i e) j) k) q ∙ ap (λ (x : Entry). head_of x k) (here empty es i e h) ∙ sym (cond-true (eqb (k / 2) i) _ (head es k) (eq-eqb (k / 2) i q)))
+      (λ q. ap (λ (x : Entry). head_of x k) (there empty es i e h (k / 2) q) ∙ sym (cond-false (eqb (k / 2) i) (head_of e k) _ (ne_eqb (k / 2) i q)))
       (cases_eq (k / 2) i))
 
   pub contents_set : contents (set es i e) ≡ record { forest = record { parent = upd (forest es).parent i e.parent; rank = upd (forest es).rank i e.rank }; bag = upd (contents es).bag i e.bag; head = λ k. cond (eqb (k / 2) i) (head_of e k) (head es k) }
   contents_set = λ j. record { forest = record { parent = column_set (λ x. x.parent) j; rank = column_set (λ x. x.rank) j }; bag = column_set (λ x. x.bag) j; head = head_set j }
 
-  frame_kept : {A : Type 0} (col : Entry → A) → col e ≡ col (entry_at es i) → ◌≡◌ {A = ℕ → A} (λ (y : ℕ). col (entry_at (set es i e) y)) (λ (y : ℕ). col (entry_at es y))
-  frame_kept col same =
-      fun_ext (λ y.
-      ⊎_elim
-      (λ q. ap (λ (k : ℕ). col (entry_at (set es i e) k)) q ∙ ap col here ∙ same ∙ ap (λ (k : ℕ). col (entry_at es k)) (sym q))
-      (λ q. ap col (there y q))
-      (cases_eq y i))
-
   pub frames_kept : e.kind ≡ (entry_at es i).kind → e.outward ≡ (entry_at es i).outward → e.within ≡ (entry_at es i).within → frames (set es i e) ≡ frames es
-  frames_kept k o w = λ j. record { kind = frame_kept (λ x. x.kind) k j; outward = frame_kept (λ x. x.outward) o j; within = frame_kept (λ x. x.within) w j }
+  frames_kept k o w = λ j. record { kind = column_kept empty es i e h (λ x. x.kind) k j; outward = column_kept empty es i e h (λ x. x.outward) o j; within = column_kept empty es i e h (λ x. x.within) w j }
 
 -- an entry with one field changed
 abbrev pub with_parent : ℕ → Entry → Entry

@@ -1,15 +1,15 @@
 -- What scopes in their frames and tasks at their places mean: what is asked of them, and the steps.
 use Rattle.std.proofs.Common.{◌≡◌, ℕ, ◌+◌, ◌-◌, ◌<◌, ◌≤◌, min, false, eqb, leb, ◌≢◌, List, [], ◌∷◌, ◌++◌, length, Some, None, Ok, Err, sym, refl, ap, ◌∙◌, ⊎_elim, arith}
 use mathlib.Core.List.{map-map}
-use Rattle.std.proofs.lemmas.Bool.{ne_eqb, cond-true, cond-false, lt-leb, le-leb}
+use Rattle.std.proofs.lemmas.Bool.{ne_eqb, cond-false, lt-leb}
 use Rattle.std.proofs.lemmas.List.{length-map}
 use Rattle.std.proofs.lemmas.List.FromFn.{map-range_with_len_more, length-map-range_with_len}
 use Rattle.std.specs.List.{range_with_len}
 use Rattle.graph.specs.History.{Scope, Place, before, moved, outward}
 use Rattle.orderings.specs.declared.words.Kind.{Kind}
 use Rattle.orderings.specs.declared.words.Kind.TheVariants.{Task, Finish}
-use Rattle.orderings.specs.declared.words.Fault.TheVariants.{NoSuchTask, MainAlone}
-use Rattle.orderings.specs.Meaning.{Meaning, Begun, task_at, new, scope_as, begun_as, with_scope, opening, after_open, shifted, closing, after_close, word, word_of, asked, kind, kind_at}
+use Rattle.orderings.specs.declared.words.Fault.TheVariants.{NoSuchTask}
+use Rattle.orderings.specs.Meaning.{Begun, task_at, new, scope_as, begun_as, with_scope, opening, after_open, shifted, closing, after_close, word, word_of, asked, kind, kind_at}
 use Rattle.orderings.specs.Store.{Frames, chain}
 use Rattle.orderings.specs.Sound.{Framed}
 use Rattle.orderings.specs.Placed.{scopes_begun, placed}

@@ -1,5 +1,5 @@
 -- How the tree is kept: main's node is number 0, and those of the caller's table go on from 1.
-use Rattle.std.specs.Prelude.{◌≡◌, ℕ, suc, ◌+◌, ◌-◌, ◌<◌, Bool, true, false, cond, ◌≢◌, List, ◌∷◌, length, ◌==◌, slice_index_or}
+use Rattle.std.specs.Prelude.{◌≡◌, ℕ, suc, ◌+◌, ◌-◌, ◌<◌, Bool, true, false, cond, ◌≢◌, List, length, ◌==◌, slice_index_or}
 use Rattle.orderings.specs.declared.words.Kind.TheVariants.{Task}
 use Rattle.tree.specs.declared.node.Node.{Node}
 use Rattle.orderings.specs.Store.{Frames, chain}

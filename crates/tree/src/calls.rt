@@ -132,7 +132,13 @@ impl Tree<'_> {
         let number = self.scopes.innermost();
         let node = self.node(number);
         let scopes = self.scopes.closed(node.parent)?;
-        self.nodes.set_entry(number, Node { live: false, ..node });
+        self.nodes.set_entry(
+            number,
+            Node {
+                live: false,
+                ..node
+            },
+        );
         self.scopes = scopes;
         Ok(number)
     }

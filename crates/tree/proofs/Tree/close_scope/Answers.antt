@@ -1,9 +1,9 @@
-use Rattle.std.proofs.Common.{◌≡◌, ℕ, ◌-◌, ◌<◌, min, false, List, ◌∷◌, length, set, Ok, sym, refl, ap, ◌∙◌, subst, arith}
+use Rattle.std.proofs.Common.{◌≡◌, ℕ, ◌<◌, min, false, List, length, set, Ok, sym, refl, ap, ◌∙◌, subst, arith}
 use Rattle.orderings.specs.declared.scopes.Scopes.{Scopes}
 use Rattle.orderings.specs.Meaning.{closing, after_close}
 use Rattle.orderings.specs.Placed.{placed}
 use Rattle.orderings.specs.Scopes.{ClosedTo}
-use Rattle.orderings.proofs.Numbers.{begun_room}
+use Rattle.orderings.proofs.Numbers.{at_numbers, begun_room}
 use Rattle.orderings.proofs.Tables.{kept_size}
 use Rattle.tree.specs.declared.Tree.{Tree}
 use Rattle.tree.specs.declared.node.Node.{Node}
@@ -12,7 +12,6 @@ use Rattle.tree.specs.Nodes.{node_at, shape, marks, SoundTree}
 use Rattle.tree.specs.ProgramTree.{tree, place_of, meaning}
 use Rattle.tree.specs.Props.{reveal_tree}
 use Rattle.tree.proofs.Closes.{parent_low, closing_closed}
-use Rattle.tree.proofs.Making.{sound_at}
 use Rattle.tree.proofs.Writes.{shut, tree_shut, placed_shut}
 use Rattle.tree.proofs.Tree.close_scope.Goals as goal
 
@@ -42,7 +41,7 @@ module _ (t : Tree) (now : Scopes) (s : ℕ) (number-is : s ≡ t.scopes.inner) 
     put = written ∙ ap (λ (e : Node). set (entries t.nodes) s (shut e)) node-is
 
     sound_close : SoundTree (shape us) (marks us) now.begun now.inner now.count
-    sound_close = sound_at _ _ _ _ _ _ _ _ (tree_shut (entries t.nodes) us t.scopes.begun s t.scopes.count now.inner room inside out.more sound put inner-is) out.begun refl out.count
+    sound_close = at_numbers (SoundTree (shape us) (marks us)) _ _ _ _ _ _ (tree_shut (entries t.nodes) us t.scopes.begun s t.scopes.count now.inner room inside out.more sound put inner-is) out.begun refl out.count
 
     meaning_close : (size : ℕ) → size ≡ length t.nodes.lent.now → placed (shape us) (place_of (shape us) now.begun now.inner) size now.begun now.inner ≡ after_close (meaning t)
     meaning_close size same =

@@ -1,12 +1,12 @@
-use Rattle.std.proofs.Common.{◌≡◌, ℕ, suc, min, List, ◌∷◌, length, sym, refl, ap, ◌∙◌, subst, arith}
+use Rattle.std.proofs.Common.{ℕ, min, List, ◌∷◌, length, sym, refl, ap, ◌∙◌, subst}
 use Rattle.orderings.specs.Placed.{placed}
-use Rattle.orderings.specs.Table.{entries}
+use Rattle.orderings.proofs.Numbers.{at_numbers}
 use Rattle.orderings.proofs.Placed.{placed_main}
 use Rattle.orderings.proofs.Tables.{new_size}
 use Rattle.tree.specs.declared.node.Node.{Node}
 use Rattle.tree.specs.Nodes.{shape, marks, SoundTree}
 use Rattle.tree.specs.ProgramTree.{place_of}
-use Rattle.tree.proofs.Making.{main_node, sound_at, sound_root, main_place}
+use Rattle.tree.proofs.Making.{main_node, sound_root, main_place}
 use Rattle.tree.proofs.Tree.new.Goals as goal
 
 pub invariant_of-result : goal.invariant_of-result
@@ -15,7 +15,7 @@ invariant_of-result c =
     let n = c.new-scopes.result in
     record {
       numbers = scopes.numbers ∙ ap (λ (l : ℕ). min l 65535) (sym (new_size c.new.result _ _ c.new.ensures));
-      sound = ∣ subst (λ (ns : List Node). SoundTree (shape ns) (marks ns) n.begun n.inner n.count) (sym c.new.ensures) (sound_at _ _ _ _ _ _ _ _ (sound_root c.args.table.now) scopes.begun scopes.inner scopes.count) ∣₁;
+      sound = ∣ subst (λ (ns : List Node). SoundTree (shape ns) (marks ns) n.begun n.inner n.count) (sym c.new.ensures) (at_numbers (SoundTree (shape (main_node ∷ c.args.table.now)) (marks (main_node ∷ c.args.table.now))) _ _ _ _ _ _ (sound_root c.args.table.now) scopes.begun scopes.inner scopes.count) ∣₁;
     }
 
 pub returns : goal.returns

@@ -1,10 +1,10 @@
-use Rattle.std.proofs.Common.{◌≡◌, ℕ, ◌+◌, ◌-◌, ◌<◌, ◌≤◌, min, true, List, ◌∷◌, length, set, Ok, sym, refl, ap, ◌∙◌, arith}
+use Rattle.std.proofs.Common.{◌≡◌, ℕ, ◌+◌, ◌<◌, ◌≤◌, min, true, List, length, set, Ok, sym, refl, ap, ◌∙◌, arith}
 use Rattle.orderings.specs.declared.words.Kind.{Kind}
 use Rattle.orderings.specs.declared.scopes.Scopes.{Scopes}
 use Rattle.orderings.specs.Meaning.{after_open}
 use Rattle.orderings.specs.Placed.{placed}
 use Rattle.orderings.specs.Scopes.{Opened, task_within}
-use Rattle.orderings.proofs.Numbers.{begun_few}
+use Rattle.orderings.proofs.Numbers.{at_numbers, begun_few}
 use Rattle.orderings.proofs.Placed.{opening_placed}
 use Rattle.orderings.proofs.Tables.{kept_size}
 use Rattle.tree.specs.declared.Tree.{Tree}
@@ -14,7 +14,6 @@ use Rattle.tree.specs.Nodes.{node_at, shape, marks, jump_under, SoundTree}
 use Rattle.tree.specs.ProgramTree.{tree, place_of, meaning}
 use Rattle.tree.specs.Props.{reveal_tree}
 use Rattle.tree.proofs.Jumps.{leads}
-use Rattle.tree.proofs.Making.{sound_at}
 use Rattle.tree.proofs.Writes.{Fits, tree_opened, placed_opened}
 use Rattle.tree.proofs.Tree.open_scope.Goals as goal
 
@@ -50,7 +49,7 @@ module _ (t : Tree) (k : Kind) (now : Scopes) (o : Opened t.scopes now) (number 
     put = written ∙ (λ j. set (entries t.nodes) ((number-is ∙ o.inner) j) e)
 
     sound_open : SoundTree (shape us) (marks us) now.begun now.inner now.count
-    sound_open = sound_at _ _ _ _ _ _ _ _ (tree_opened (entries t.nodes) n t.scopes.inner t.scopes.count e room t.scopes.innermost (reveal_tree t.sound) fit us put) o.begun o.inner o.count
+    sound_open = at_numbers (SoundTree (shape us) (marks us)) _ _ _ _ _ _ (tree_opened (entries t.nodes) n t.scopes.inner t.scopes.count e room t.scopes.innermost (reveal_tree t.sound) fit us put) o.begun o.inner o.count
 
     meaning_open : (size : ℕ) → size ≡ length t.nodes.lent.now → placed (shape us) (place_of (shape us) now.begun now.inner) size now.begun now.inner ≡ after_open k (meaning t)
     meaning_open size same =

@@ -8,7 +8,7 @@ use Rattle.tree.specs.ProgramTree.{tree, Closed}
 use Rattle.tree.proofs.Jumps.{leads}
 use Rattle.tree.proofs.Sides.{closed_not_main}
 use Rattle.tree.proofs.Search.{sound_of, closed_off, not_live, within_48}
-use Rattle.tree.proofs.Turns.{next, ended, turned, some_turn}
+use Rattle.tree.proofs.Turns.{next, turned}
 use Rattle.tree.proofs.Tree.side.Goals.{then-far, else-far}
 use Rattle.tree.proofs.Tree.side.Goals as goal
 

@@ -1,4 +1,4 @@
-use Rattle.std.proofs.Common.{◌≡◌, ℕ, ◌-◌, ◌<◌, ◌≤◌, min, List, length, Ok, sym, ap, ◌∙◌, subst, arith}
+use Rattle.std.proofs.Common.{◌≡◌, ℕ, min, List, length, Ok, sym, ap, ◌∙◌, subst, arith}
 use Rattle.orderings.specs.declared.bags.Bags.{Bags}
 use Rattle.orderings.specs.declared.bags.entry.Entry.{Entry}
 use Rattle.orderings.specs.declared.scopes.Scopes.{Scopes}
@@ -11,8 +11,7 @@ use Rattle.orderings.specs.Bags.{meaning_of, meaning}
 use Rattle.orderings.specs.Props.{reveal}
 use Rattle.orderings.proofs.Closes.{outer_low}
 use Rattle.orderings.proofs.Closing.{sound_after, answer_after, meaning_after}
-use Rattle.orderings.proofs.Making.{sound_at}
-use Rattle.orderings.proofs.Numbers.{begun_few, begun_room}
+use Rattle.orderings.proofs.Numbers.{at_numbers, begun_few, begun_room}
 use Rattle.orderings.proofs.bags.Bags.close_scope.Goals as goal
 
 -- the innermost open scope, of the number s, closes
@@ -46,7 +45,7 @@ module _ (b : Bags) (now : Scopes) (s : ℕ) (number-is : s ≡ b.scopes.inner) 
 
   module _ (us : List Entry) (bags : contents us ≡ poured_by (fr.kind s) fr held s) (stay : frames us ≡ fr) where
     sound_close : Sound (frames us) (contents us) now.begun now.inner now.count
-    sound_close = subst (λ (f : Frames). Sound f (contents us) now.begun now.inner now.count) (sym stay) (sound_at _ _ _ _ _ _ _ _ (sound_after fr held cap s closable (contents us) bags) out.begun inner-is out.count)
+    sound_close = subst (λ (f : Frames). Sound f (contents us) now.begun now.inner now.count) (sym stay) (at_numbers (Sound fr (contents us)) _ _ _ _ _ _ (sound_after fr held cap s closable (contents us) bags) out.begun inner-is out.count)
 
     meaning_close : (size : ℕ) → size ≡ cap → meaning_of (frames us) (contents us) size now.begun now.inner ≡ after_close (meaning b)
     meaning_close size e =

@@ -3,7 +3,8 @@ use Rattle.orderings.specs.declared.bags.entry.Entry.{Entry}
 use Rattle.orderings.specs.Store.{empty, frames, contents}
 use Rattle.orderings.specs.Sound.{Sound}
 use Rattle.orderings.specs.Bags.{place_of, meaning_of}
-use Rattle.orderings.proofs.Making.{sound_at, sound_main}
+use Rattle.orderings.proofs.Making.{sound_main}
+use Rattle.orderings.proofs.Numbers.{at_numbers}
 use Rattle.orderings.proofs.Placed.{placed_main}
 use Rattle.orderings.proofs.Tables.{new_size}
 use Rattle.orderings.proofs.bags.Bags.new.Goals as goal
@@ -14,7 +15,7 @@ invariant_of-result c =
     let n = c.new-scopes.result in
     record {
       numbers = scopes.numbers ∙ ap (λ (l : ℕ). min l 65535) (sym (new_size c.new.result _ _ c.new.ensures));
-      sound = ∣ subst (λ (es : List Entry). Sound (frames es) (contents es) n.begun n.inner n.count) (sym c.new.ensures) (sound_at _ _ _ _ _ _ _ _ (sound_main c.args.table.now) scopes.begun scopes.inner scopes.count) ∣₁;
+      sound = ∣ subst (λ (es : List Entry). Sound (frames es) (contents es) n.begun n.inner n.count) (sym c.new.ensures) (at_numbers (Sound (frames (empty ∷ c.args.table.now)) (contents (empty ∷ c.args.table.now))) _ _ _ _ _ _ (sound_main c.args.table.now) scopes.begun scopes.inner scopes.count) ∣₁;
     }
 
 pub returns : goal.returns

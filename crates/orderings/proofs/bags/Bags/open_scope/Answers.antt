@@ -1,4 +1,4 @@
-use Rattle.std.proofs.Common.{◌≡◌, ℕ, ◌+◌, ◌-◌, ◌<◌, ◌≤◌, min, List, ◌∷◌, length, set, Ok, sym, ap, ◌∙◌, arith}
+use Rattle.std.proofs.Common.{◌≡◌, ℕ, ◌<◌, ◌≤◌, min, List, length, set, Ok, sym, ap, ◌∙◌, arith}
 use Rattle.orderings.specs.declared.words.Kind.{Kind}
 use Rattle.orderings.specs.declared.scopes.Scopes.{Scopes}
 use Rattle.orderings.specs.declared.bags.Bags.{Bags}
@@ -11,8 +11,7 @@ use Rattle.orderings.specs.Sound.{Sound}
 use Rattle.orderings.specs.Bags.{place_of, meaning_of, meaning}
 use Rattle.orderings.specs.Props.{reveal}
 use Rattle.orderings.proofs.Fresh.{fresh, sound_opened, meaning_opened}
-use Rattle.orderings.proofs.Making.{sound_at}
-use Rattle.orderings.proofs.Numbers.{begun_few}
+use Rattle.orderings.proofs.Numbers.{at_numbers, begun_few}
 use Rattle.orderings.proofs.Placed.{opening_placed}
 use Rattle.orderings.proofs.Tables.{kept_size}
 use Rattle.orderings.proofs.bags.Bags.open_scope.Goals as goal
@@ -43,7 +42,7 @@ module _ (b : Bags) (k : Kind) (now : Scopes) (o : Opened b.scopes now) (number 
     put = written ∙ (λ j. set es (next j) (fresh k (next j) (outward-is j) within))
 
     sound_open : Sound (frames us) (contents us) now.begun now.inner now.count
-    sound_open = sound_at _ _ _ _ _ _ _ _ (sound_opened es n b.scopes.inner within k room b.scopes.count (reveal b.sound) (begun_few b.scopes) b.scopes.innermost way us put) o.begun o.inner o.count
+    sound_open = at_numbers (Sound (frames us) (contents us)) _ _ _ _ _ _ (sound_opened es n b.scopes.inner within k room b.scopes.count (reveal b.sound) (begun_few b.scopes) b.scopes.innermost way us put) o.begun o.inner o.count
 
     meaning_open : (size : ℕ) → size ≡ length b.store.lent.now → meaning_of (frames us) (contents us) size now.begun now.inner ≡ after_open k (meaning b)
     meaning_open size e =

@@ -102,7 +102,7 @@ returns-then-scope-ne0-clause-bags c =
     let within = ap (λ (x : Entry). x.within) c.at-bag.ensures ∙ ap (frames es).within out in
     let kind = sym (ap (λ (x : Entry). x.kind) c.at-scope.ensures) ∙ c.in-Finish.is in
     c.pour-then-scope-ne0.ensures.bags ∙ (λ j. poured (contents es) (2 * within j) (b j))
-          ∙ sym (ap (λ (k : Kind). poured_by k (frames es) (contents es) s) kind ∙ cond-false (eqb ((contents es).head (2 * s + 1)) 0) _ _ (ne_eqb ((contents es).head (2 * s + 1)) 0 (omega arith)))
+    ∙ sym (ap (λ (k : Kind). poured_by k (frames es) (contents es) s) kind ∙ cond-false (eqb ((contents es).head (2 * s + 1)) 0) _ _ (ne_eqb ((contents es).head (2 * s + 1)) 0 (omega arith)))
 
 pub returns-else-scope-ne0-clause-bags : goal.returns-else-scope-ne0-clause-bags
 returns-else-scope-ne0-clause-bags c =
