@@ -33,7 +33,7 @@ impl<'t> Ordering for Tree<'t> {
     }
 
     fn kind_of(&self, number: u32) -> Option<Kind> {
-        // Not by `then`: its closure would need a contract written out.
+        // Not by `then`: its closure would need a contract written out. Nor in `Table`, which knows no entry's kind.
         if number < self.scopes.begun() {
             Some(self.node(number).kind)
         } else {
