@@ -3,8 +3,8 @@ use Rattle.std.proofs.Common.{◌≡◌, ℕ, ◌+◌, ◌-◌, ◌<◌, ◌≤�
 use Rattle.std.proofs.lemmas.List.{append-nil, map-append, drop_more, drop_all, take_rest}
 use Rattle.orderings.specs.declared.questions.Question.TheVariants.{InnermostTask}
 use Rattle.trace_check.specs.declared.words.Call.TheVariants.{Ask}
-use Rattle.conversation.specs.declared.words.Exchange.{Exchange}
-use Rattle.conversation.specs.Conversation.{calls_of}
+use Rattle.conversation.specs.Exchanges.{Exchange}
+use Rattle.orderings.specs.Inquiries.{calls_of}
 use Rattle.shorthand.specs.declared.words.Action.{Action}
 use Rattle.walk.specs.declared.steps.Step.{Step}
 use Rattle.walk.specs.Calls.{call_of, calls_for}

@@ -4,9 +4,10 @@ use Rattle.graph.specs.History.{History, begun, scopes}
 use Rattle.orderings.specs.declared.words.Kind.{Kind}
 use Rattle.orderings.specs.declared.words.Kind.TheVariants.{Task, Finish}
 use Rattle.orderings.specs.Past.{kind_of}
-use Rattle.orderings.specs.Questions.{word_of_past}
-use Rattle.trace_check.specs.declared.words.Reply.{Reply}
-use Rattle.trace_check.specs.Puts.{question_told}
+use Rattle.orderings.specs.Questions.{ok_as, word_of_past}
+use Rattle.trace_check.specs.declared.words.Reply.TheVariants.{Told}
+use Rattle.trace_check.specs.Calls.{by_ordering}
+use Rattle.conversation.specs.Exchanges.{Answer}
 use Rattle.conversation.specs.declared.words.Ending.{Ending}
 use Rattle.conversation.specs.Leaders.{reached}
 use Rattle.conversation.specs.Replies.{Setting, reply_to, room_for, after}
@@ -17,11 +18,11 @@ use Rattle.walk.specs.Calls.{call_of}
 use Rattle.walk.specs.Lines.{Plainly, AllPlainly}
 use Rattle.walk.specs.Walk.{exchange, step, steps, Walked}
 
-one_of : (b : Bool) (x y : Reply) → Plainly x → Plainly y → Plainly (cond b x y)
+one_of : (b : Bool) (x y : Answer) → Plainly x → Plainly y → Plainly (cond b x y)
 one_of true x y p q = p
 one_of false x y p q = q
 
-word_plainly : (h : History) (t : ℕ) (k : Option Kind) → Plainly (question_told (word_of_past h t k))
+word_plainly : (h : History) (t : ℕ) (k : Option Kind) → Plainly (ok_as Told (by_ordering (word_of_past h t k)))
 word_plainly h t None = tt
 word_plainly h t (Some Task) = tt
 word_plainly h t (Some Finish) = tt

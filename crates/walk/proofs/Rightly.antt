@@ -1,15 +1,16 @@
 -- Right replies to the calls of a plan are the steps of a walk.
-use Rattle.std.proofs.Common.{◌≡◌, ℕ, Bool, true, false, cond, List, [], ◌∷◌, ◌++◌, map, sym, refl, ap, ◌∙◌, subst, append_assoc, arith}
+use Rattle.std.proofs.Common.{◌≡◌, ℕ, Bool, true, false, cond, is_err, List, [], ◌∷◌, ◌++◌, map, sym, refl, ap, ◌∙◌, subst, append_assoc, arith}
 use Rattle.rules.specs.declared.Rule.{Rule}
 use Rattle.graph.specs.History.{History, scopes, innermost_task}
 use Rattle.orderings.specs.declared.questions.Question.TheVariants.{InnermostTask}
 use Rattle.trace_check.specs.declared.words.Call.{Call}
 use Rattle.trace_check.specs.declared.words.Call.TheVariants.{Ask}
 use Rattle.conversation.specs.declared.words.Ending.{Ending}
-use Rattle.conversation.specs.declared.words.Exchange.{Exchange}
-use Rattle.conversation.specs.Replies.{Setting, reply_to, is_refusal, after, after_all, events}
+use Rattle.orderings.specs.Inquiries.{calls_of}
+use Rattle.conversation.specs.Exchanges.{Exchange}
+use Rattle.conversation.specs.Replies.{Setting, reply_to, after, after_all, events}
 use Rattle.conversation.specs.Theorem.{RepliesRight}
-use Rattle.conversation.specs.Conversation.{calls_of, ending}
+use Rattle.conversation.specs.Conversation.{ending}
 use Rattle.shorthand.specs.declared.words.Action.{Action}
 use Rattle.walk.specs.declared.steps.Step.{Step}
 use Rattle.walk.specs.Calls.{call_of, calls_for, walk_setting, Checked}
@@ -40,7 +41,7 @@ same_either false h = refl
 
 -- a question is no event
 asked_only : (q : Exchange) (h : History) → q.call ≡ Ask InnermostTask → after q h ≡ h
-asked_only q h e = rw e (same_either (is_refusal q.reply) h)
+asked_only q h e = rw e (same_either (is_err q.reply) h)
 
 -- the steps, and the history that the exchanges leave
 pub record Stepped (s : Setting) (h : History) (actions : List Action) (xs : List Exchange) : Type 0 where

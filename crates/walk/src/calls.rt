@@ -1,10 +1,10 @@
 //! The calls that the actions of a plan are.
 ghost use Rattle.std.specs.Prelude.{◌≡◌, IfOk};
-ghost use Rattle.conversation.specs.Conversation.{calls_of};
+ghost use Rattle.orderings.specs.Inquiries.{calls_of};
 ghost use Rattle.walk.specs.Calls.{call_of, calls_for, Checked};
 
 use conversation::{Ending, Exchange, converse};
-use orderings::{Bags, Entry, Question, Told};
+use orderings::{Bags, Entry, Kind, Question, Told};
 use rows::Row;
 use rules::Rule;
 use shorthand::Action;
@@ -22,8 +22,8 @@ fn call_of(action: Action) -> Call
     ensures { result ≡ call_of action }
 {
     match action {
-        Action::OpenTask => Call::OpenTask,
-        Action::OpenFinish => Call::OpenFinish,
+        Action::OpenTask => Call::Open(Kind::Task),
+        Action::OpenFinish => Call::Open(Kind::Finish),
         Action::Close => Call::Close,
         Action::Access(class, record) => Call::Access(class, record),
         Action::Ask(task) => Call::Ask(Question::WordOf(task)),
@@ -36,7 +36,7 @@ fn to_put(call: Call) -> Exchange
 {
     Exchange {
         call,
-        reply: Reply::Told(Told::Number(0)),
+        reply: Ok(Reply::Told(Told::Number(0))),
     }
 }
 

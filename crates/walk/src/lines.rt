@@ -4,18 +4,16 @@ ghost use Rattle.walk.specs.Lines.{AWord, Plainly, AllPlainly};
 
 use crate::calls::{NUMBERS, RECORDS};
 use crate::steps::{Step, Walk};
-use crate::words::{Deed, Named, layer_name, meaning, plural, rule_name};
+use crate::words::{Deed, Named, plural};
 use conversation::Ending;
 use orderings::{Told, Word};
-use rows::Finding;
 use rules::Rule;
 use shorthand::Action;
 use std::io;
 use trace_check::{Counts, Refusal, Reply};
 
 fn tell_setting(rt: &HostRuntime, rule: Rule) -> io::Result<()> {
-    let name = rule_name(rule);
-    println!(rt; "rule {name}, {RECORDS} records, {NUMBERS} scope numbers")
+    println!(rt; "rule {rule}, {RECORDS} records, {NUMBERS} scope numbers")
 }
 
 fn deed_of(rule: Rule, step: Step) -> Deed {
@@ -47,13 +45,13 @@ fn tell_access(
     rule: Rule,
     events: &[Step],
     step: Step,
-    finding: Finding,
+    found: Option<(u32, u32)>,
 ) -> io::Result<()> {
     let number = events.len();
     let deed = deed_of(rule, step);
-    match finding {
-        Finding::Clear => println!(rt; "event {number}: {deed}: clear"),
-        Finding::Clash((earlier, _)) => {
+    match found {
+        None => println!(rt; "event {number}: {deed}: clear"),
+        Some((earlier, _)) => {
             print!(rt; "event {number}: {deed}: CLASH with event {earlier}")?;
             if let Some(first) = events.get(earlier as usize) {
                 let other = deed_of(rule, *first);
@@ -85,9 +83,8 @@ fn tell_refusal(rt: &HostRuntime, rule: Rule, step: Step, refusal: Refusal) -> i
     let code = refusal.code();
     let number = code.number;
     let layer = code.layer;
-    let name = layer_name(refusal);
-    let meaning = meaning(refusal);
-    println!(rt; "no event: {deed}: REFUSED by {number} of layer {layer}, {name}: {meaning}")
+    let layer_number = u8::from(layer);
+    println!(rt; "no event: {deed}: REFUSED by {number} of layer {layer_number}, {layer}: {refusal}")
 }
 
 /// The line of a step. The events so far are given by their numbers.
@@ -96,11 +93,11 @@ fn tell_step(rt: &HostRuntime, rule: Rule, events: &[Step], step: Step) -> io::R
 {
     let number = events.len();
     match step.reply {
-        Reply::Opened(scope) => tell_open(rt, number, step, scope),
-        Reply::Closed(scope) => tell_close(rt, number, step, scope),
-        Reply::Found(finding) => tell_access(rt, rule, events, step, finding),
-        Reply::Told(told) => tell_word(rt, rule, step, told),
-        Reply::Refused(refusal) => tell_refusal(rt, rule, step, refusal),
+        Ok(Reply::Opened(scope)) => tell_open(rt, number, step, scope),
+        Ok(Reply::Closed(scope)) => tell_close(rt, number, step, scope),
+        Ok(Reply::Found(found)) => tell_access(rt, rule, events, step, found),
+        Ok(Reply::Told(told)) => tell_word(rt, rule, step, told),
+        Err(refusal) => tell_refusal(rt, rule, step, refusal),
     }
 }
 

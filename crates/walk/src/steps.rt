@@ -10,14 +10,14 @@ use orderings::Told;
 use rules::Rule;
 use shorthand::Action;
 use std::alloc::{AllocError, Global};
-use trace_check::Reply;
+use trace_check::{Refusal, Reply};
 
 /// An action, the task that it belongs to, and the reply.
 #[derive(Clone, Copy)]
 pub(crate) struct Step {
     pub(crate) task: u32,
     pub(crate) action: Action,
-    pub(crate) reply: Reply,
+    pub(crate) reply: Result<Reply, Refusal>,
 }
 
 impl Step {
@@ -27,18 +27,18 @@ impl Step {
     {
         match (self.action, self.reply) {
             (Action::Ask(_), _) => false,
-            (_, Reply::Refused(_)) => false,
+            (_, Err(_)) => false,
             _ => true,
         }
     }
 }
 
 /// The number that a reply tells.
-fn number_told(reply: Reply) -> u32
+fn number_told(reply: Result<Reply, Refusal>) -> u32
     ensures { result ≡ number_told reply }
 {
     match reply {
-        Reply::Told(Told::Number(number)) => number,
+        Ok(Reply::Told(Told::Number(number))) => number,
         _ => 0,
     }
 }

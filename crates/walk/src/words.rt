@@ -1,10 +1,7 @@
-//! The words for tasks, actions and refusals.
-use orderings::Fault;
-use rows::RowFault;
+//! The words for tasks and actions.
 use rules::Rule;
 use shorthand::Action;
 use std::fmt;
-use trace_check::Refusal;
 
 /// A task by its name.
 #[derive(Drop)]
@@ -110,38 +107,5 @@ impl fmt::Display for Deed {
                 write!(f, "asks about {asked}")
             }
         }
-    }
-}
-
-pub(crate) fn rule_name(rule: Rule) -> &'static str {
-    match rule {
-        Rule::Plain(_) => "plain",
-        Rule::Depot(_) => "depot",
-        Rule::Field(_) => "field",
-    }
-}
-
-/// The layer that refuses.
-pub(crate) fn layer_name(refusal: Refusal) -> &'static str {
-    match refusal {
-        Refusal::Order(_) => "the ordering",
-        _ => "the check",
-    }
-}
-
-/// What a refusal means.
-pub(crate) fn meaning(refusal: Refusal) -> &'static str {
-    match refusal {
-        Refusal::NoSuchRecord => "there is no such record",
-        Refusal::UnknownClass => "the rule does not know the class",
-        Refusal::BadStart => "the check cannot start so",
-        Refusal::LimitReached => "there are as many events as the limit",
-        Refusal::ScopeOpen => "a scope besides main is open",
-        Refusal::AlreadyBegun => "the ordering has begun more than main",
-        Refusal::Row(RowFault::Full) => "the record holds eight other classes",
-        Refusal::Row(RowFault::Damaged) => "the record's row is damaged",
-        Refusal::Order(Fault::NoSuchTask) => "no task has that number",
-        Refusal::Order(Fault::NoNumberLeft) => "no scope number is left",
-        Refusal::Order(Fault::MainAlone) => "main alone is open",
     }
 }

@@ -1,6 +1,6 @@
 use Rattle.std.proofs.Common.{◌≡◌, List, length, vec_items, vec_len, sym, ap, ◌∙◌, subst}
 use Rattle.std.proofs.lemmas.List.{with_items_is}
-use Rattle.conversation.specs.Conversation.{calls_of}
+use Rattle.orderings.specs.Inquiries.{calls_of}
 use Rattle.walk.specs.declared.steps.Step.{Step}
 use Rattle.walk.specs.Calls.{walk_setting}
 use Rattle.walk.specs.Steps.{paired}
