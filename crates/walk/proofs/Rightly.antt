@@ -1,9 +1,10 @@
 -- Right replies to the calls of a plan are the steps of a walk.
-use Rattle.std.proofs.Common.{◌≡◌, ℕ, Bool, true, false, cond, is_err, List, [], ◌∷◌, ◌++◌, map, sym, refl, ap, ◌∙◌, subst, append_assoc, arith}
+use Rattle.std.proofs.Common.{◌≡◌, ℕ, Bool, true, false, cond, is_err, List, [], ◌∷◌, ◌++◌, map, sym, refl, ap, ◌∙◌, subst, append_assoc, arith, length, Vec, vec_items, vec_len, Global}
+use Rattle.std.specs.Vec.{with_items}
+use Rattle.std.proofs.lemmas.List.{with_items_is}
 use Rattle.rules.specs.declared.Rule.{Rule}
 use Rattle.graph.specs.History.{History, scopes, innermost_task}
 use Rattle.orderings.specs.declared.questions.Question.TheVariants.{InnermostTask}
-use Rattle.trace_check.specs.declared.words.Call.{Call}
 use Rattle.trace_check.specs.declared.words.Call.TheVariants.{Ask}
 use Rattle.conversation.specs.declared.words.Ending.{Ending}
 use Rattle.orderings.specs.Inquiries.{calls_of}
@@ -70,8 +71,15 @@ stepped s h (a ∷ rest) (q ∷ x ∷ xs) r e =
     }
 
 -- a plan that was checked was walked through
-pub walked : (rule : Rule) (actions : List Action) (put : List Call) (xs : List Exchange) (last : Ending) → Checked rule put xs last → put ≡ calls_for actions → Walked (walk_setting rule) actions (paired actions xs) last
-walked rule actions put xs last c e =
+walked : (rule : Rule) (actions : List Action) (put xs : List Exchange) (all : List Step) (last : Ending) → Checked rule (calls_of put) xs last → calls_of put ≡ calls_for actions → all ≡ paired actions xs → Walked (walk_setting rule) actions all last
+walked rule actions put xs all last c e paired_so =
     let s = walk_setting rule in
     let t = stepped s [] actions xs (right_from s [] xs c.replies) (c.calls ∙ e) in
-    record { each = t.each; ends = c.ends ∙ ap (ending s) (t.left ∙ ap (λ (all : List Step). events (map exchange all)) (sym t.each)) }
+    let each : all ≡ steps s [] actions = paired_so ∙ t.each in
+    record { each = each; ends = c.ends ∙ ap (ending s) (t.left ∙ ap (λ (xs : List Step). events (map exchange xs)) (sym each)) }
+
+-- the same, where the exchanges are lent by a vector
+pub walked_in : (rule : Rule) (actions : List Action) (v : Vec Exchange Global) (put xs lent : List Exchange) (all : List Step) (last : Ending) → Checked rule (calls_of put) xs last → put ≡ vec_items v → length put ≡ vec_len v → length xs ≡ length put → lent ≡ vec_items (with_items v xs) → calls_of (vec_items v) ≡ calls_for actions → all ≡ paired actions lent → Walked (walk_setting rule) actions all last
+walked_in rule actions v put xs lent all last c e l k f g h =
+    let same : lent ≡ xs = f ∙ with_items_is v xs (k ∙ l) in
+    walked rule actions put xs all last c (ap calls_of e ∙ g) (h ∙ ap (paired actions) same)

@@ -18,6 +18,7 @@ pub(crate) const RECORDS: usize = 256;
 
 const EVENT_LIMIT: u32 = 1_000_000;
 
+// No `From`: neither type is this crate's.
 fn call_of(action: Action) -> Call
     ensures { result ≡ call_of action }
 {
@@ -59,8 +60,5 @@ pub(crate) fn check_plan(rule: &Rule, exchanges: &mut [Exchange]) -> Ending
     let mut table = [Entry::EMPTY; NUMBERS];
     let mut rows = [Row::EMPTY; RECORDS];
     let mut bags = Bags::new(&mut table);
-    match converse(&mut bags, rule, &mut rows, EVENT_LIMIT, exchanges) {
-        Ok(ending) => ending,
-        Err(_) => unreachable(),
-    }
+    converse(&mut bags, rule, &mut rows, EVENT_LIMIT, exchanges).unwrap()
 }

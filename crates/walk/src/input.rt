@@ -3,7 +3,7 @@ ghost use Rattle.std.specs.Prelude.{IfOk};
 ghost use Rattle.walk.specs.Walk.{Says};
 
 use rules::Rule;
-use shorthand::{Action, Fault, Reason, read};
+use shorthand::{Action, Fault, Misread, Reason, read};
 use std::alloc::{AllocError, Global};
 use std::io::Read;
 use std::{fmt, io};
@@ -16,8 +16,25 @@ const MOST: usize = 65_536;
 pub(crate) enum Stop {
     Input(io::Error),
     TooLong,
-    /// The position, counted from 1, the byte there if there is one, and what is wrong.
-    Misread(usize, Option<u8>, Reason),
+    Misread {
+        /// Counted from 1.
+        position: usize,
+        /// The byte there, if there is one.
+        byte: Option<u8>,
+        reason: Reason,
+    },
+}
+
+impl Stop {
+    fn misread(text: &[u8], misread: Misread) -> Stop {
+        let position = misread.position;
+        let place = position.saturating_sub(1);
+        Stop::Misread {
+            position,
+            byte: text.get(place).copied(),
+            reason: misread.reason,
+        }
+    }
 }
 
 impl From<io::Error> for Stop {
@@ -54,20 +71,16 @@ pub(crate) fn plan_of(heap: Global, text: &[u8]) -> Result<Script, Stop>
     ensures { IfOk result (λ s. Says text.now s.rule s.actions.items) }
 {
     let mut actions = vec![in heap; Action::Close; text.len()]?;
-    match read(text, &mut actions) {
-        Ok(plan) => {
-            actions.truncate(plan.count);
-            Ok(Script {
-                rule: plan.rule,
-                actions,
-            })
-        }
-        Err(Fault::Misread(misread)) => {
-            let place = misread.position.saturating_sub(1);
-            Err(Stop::Misread(misread.position, text.get(place).copied(), misread.reason))
-        }
+    let plan = match read(text, &mut actions) {
+        Ok(plan) => plan,
+        Err(Fault::Misread(misread)) => return Err(Stop::misread(text, misread)),
         Err(Fault::NoRoom) => unreachable(),
-    }
+    };
+    actions.truncate(plan.count);
+    Ok(Script {
+        rule: plan.rule,
+        actions,
+    })
 }
 
 fn expected(reason: Reason) -> &'static str {
@@ -86,18 +99,23 @@ impl fmt::Display for Stop {
         match self {
             Stop::Input(error) => write!(f, "{error}"),
             Stop::TooLong => write!(f, "the plan has more than {MOST} bytes"),
-            Stop::Misread(position, None, reason) => {
+            Stop::Misread {
+                position,
+                byte,
+                reason,
+            } => {
                 let expected = expected(*reason);
-                write!(f, "position {position}, the end of the plan: {expected}")
-            }
-            Stop::Misread(position, Some(byte), reason) => {
-                let expected = expected(*reason);
-                if byte.is_ascii_graphic() {
-                    let character = *byte as char;
-                    write!(f, "position {position}, character {character}: {expected}")
-                } else {
-                    write!(f, "position {position}, byte {byte}: {expected}")
+                write!(f, "position {position}, ")?;
+                match byte {
+                    None => write!(f, "the end of the plan")?,
+                    Some(byte) if byte.is_ascii_graphic() => write!(
+                        f,
+                        "character {}",
+                        *byte as char
+                    )?,
+                    Some(byte) => write!(f, "byte {byte}")?,
                 }
+                write!(f, ": {expected}")
             }
         }
     }

@@ -1,4 +1,5 @@
 //! The words for tasks and actions.
+use orderings::Kind;
 use rules::Rule;
 use shorthand::Action;
 use std::fmt;
@@ -14,6 +15,44 @@ impl fmt::Display for Named {
             write!(f, "main")
         } else {
             write!(f, "task {number}")
+        }
+    }
+}
+
+/// A scope, by its kind and number.
+#[derive(Drop)]
+pub(crate) struct Scope {
+    kind: Kind,
+    number: u32,
+}
+
+impl Scope {
+    /// The scope of a number that an action opened.
+    pub(crate) fn opened_by(action: Action, number: u32) -> Scope {
+        let kind = match action {
+            Action::OpenTask => Kind::Task,
+            _ => Kind::Finish,
+        };
+        Scope { kind, number }
+    }
+
+    /// The scope of a number that a task closed: the task itself, or else a finish.
+    pub(crate) fn closed_in(task: u32, number: u32) -> Scope {
+        let kind = if number == task {
+            Kind::Task
+        } else {
+            Kind::Finish
+        };
+        Scope { kind, number }
+    }
+}
+
+impl fmt::Display for Scope {
+    fn fmt<W: fmt::Write>(&self, f: &mut fmt::Formatter<W>) -> fmt::Result {
+        let number = self.number;
+        match self.kind {
+            Kind::Task => write!(f, "task {number}"),
+            Kind::Finish => write!(f, "finish {number}"),
         }
     }
 }
