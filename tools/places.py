@@ -25,7 +25,7 @@ class Function:
             head, _, self.body = text.partition('{\n')
         cut = re.search(r'\n\s*(?:requires|ensures)\b', head)
         self.signature = head[:cut.start()] if cut else head
-        self.clauses = re.findall(r'(?:requires|ensures)[ \w]*\{((?:[^{}]|\{[^{}]*\})*)\}', head[cut.start():] if cut else '')
+        self.clauses = re.findall(r'(?:requires|ensures)[ \w]*\{(.*?)\}\s*(?=requires|ensures|$)', head[cut.start():] if cut else '', re.S)
         inside = self.signature.partition('(')[2].rpartition(')')[0]
         self.parameters = [p.strip().replace('mut ', '').replace('&', '') for p in inside.split(',') if p.strip()]
 
@@ -95,7 +95,11 @@ def point3():
 def point4():
     """functions whose body is one match that answers a value for each case"""
     for f in functions():
-        if re.match(r'\s*(let \w+ = )?match [^{]+\{(\s*[^\n]+=> [^\n{]+,\n)+\s*\}', f.body):
+        lines = [line.strip() for line in f.body.split('\n') if line.strip()]
+        if len(lines) < 4 or not re.match(r'(let \w+ = )?(f\.write_str\()?match [^{]+\{$', lines[0]):
+            continue
+        arms = list(itertools.takewhile(lambda line: not line.startswith('}'), lines[1:]))
+        if all(re.match(r'[^{]+=> [^{]+,$', arm) for arm in arms) and not lines[0].startswith('f.write'):
             yield f.where()
 
 

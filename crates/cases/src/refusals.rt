@@ -1,19 +1,15 @@
 //! Each refusal of the check by the state that brings it about, and the order in which they are tested.
-use orderings::{Bags, Entry, Ordering};
+use orderings::{Bags, Entry, Kind, Ordering};
 use rows::{Row, Slot};
 use rules::Plain;
 use std::test::Fail;
-use trace_check::Check;
+use trace_check::{Check, Counts};
 
-/// The number of a refused start, or 0.
-fn start_number(bags: &Bags, rows: &mut [Row], limit: u32) -> u8 {
-    match Check::start(bags, rows, limit) {
-        Ok(check) => {
-            let _ = check.give_up(bags);
-            0
-        }
-        Err(refusal) => refusal.code().number,
-    }
+/// A start, or the number by which it is refused.
+fn start(bags: &Bags, rows: &mut [Row], limit: u32) -> Result<(), u8> {
+    let check = Check::start(bags, rows, limit).map_err(|refusal| refusal.code().number)?;
+    let _ = check.give_up(bags);
+    Ok(())
 }
 
 #[test]
@@ -22,34 +18,28 @@ fn start_refuses_rows_limit_and_scopes_begun(rt: HostRuntime) {
     let mut bags = Bags::new(&mut table);
     let mut rows = [Row::EMPTY; 2];
     let mut none: [Row; 0] = [];
-    assert_eq!(rt; start_number(&bags, &mut none, 10), 13);
-    assert_eq!(rt; start_number(&bags, &mut rows, 0), 13);
-    assert_eq!(rt; start_number(&bags, &mut rows, 1000001), 13);
-    assert_eq!(rt; start_number(&bags, &mut rows, 1000000), 0);
-    assert!(rt; bags.open_task().is_ok());
+    assert_eq!(rt; start(&bags, &mut none, 10), Err(13));
+    assert_eq!(rt; start(&bags, &mut rows, 0), Err(13));
+    assert_eq!(rt; start(&bags, &mut rows, 1000001), Err(13));
+    assert_eq!(rt; start(&bags, &mut rows, 1000000), Ok(()));
+    assert!(rt; bags.open(Kind::Task).is_ok());
     assert!(rt; bags.close().is_ok());
-    assert_eq!(rt; start_number(&bags, &mut rows, 0), 13);
-    assert_eq!(rt; start_number(&bags, &mut rows, 10), 27);
+    assert_eq!(rt; start(&bags, &mut rows, 0), Err(13));
+    assert_eq!(rt; start(&bags, &mut rows, 10), Err(27));
 }
 
-/// The number of a refused access of a class to record 1 of two, where the row of record 1 was changed after the start, or 0.
-fn access_number(row: Row, class: u32, record: u32) -> u8 {
+/// An access of a class to a record, by a finish in main, where the row of record 1 of two was changed after the start: what it finds, or the
+/// number by which it is refused.
+fn access(row: Row, class: u32, record: u32) -> Result<Option<(u32, u32)>, u8> {
     let mut table = [Entry::EMPTY; 2];
     let mut bags = Bags::new(&mut table);
     let mut rows = [Row::EMPTY; 2];
-    match Check::start(&bags, &mut rows, 10) {
-        Ok(mut check) => {
-            let _ = check.open_finish(&mut bags);
-            rows[1] = row;
-            let answer = check.access(&mut bags, &Plain {}, &mut rows, class, record);
-            let _ = check.give_up(&bags);
-            match answer {
-                Ok(_) => 0,
-                Err(refusal) => refusal.code().number,
-            }
-        }
-        Err(refusal) => refusal.code().number,
-    }
+    let mut check = Check::start(&bags, &mut rows, 10).map_err(|refusal| refusal.code().number)?;
+    let _ = check.open(&mut bags, Kind::Finish);
+    rows[1] = row;
+    let answer = check.access(&mut bags, &Plain {}, &mut rows, class, record);
+    let _ = check.give_up(&bags);
+    answer.map_err(|refusal| refusal.code().number)
 }
 
 fn held(count: usize, first: Slot, second: Slot) -> Row {
@@ -72,31 +62,31 @@ fn access_refuses_record_class_and_damage_in_this_order(rt: HostRuntime) {
         event: 0,
         task: 0,
     };
-    assert_eq!(rt; access_number(held(9, read, write), 9, 2), 9);
-    assert_eq!(rt; access_number(held(9, read, write), 9, 1), 10);
-    assert_eq!(rt; access_number(held(9, read, write), 1, 1), 25);
-    assert_eq!(rt; access_number(held(2, read, read), 1, 1), 25);
+    assert_eq!(rt; access(held(9, read, write), 9, 2), Err(9));
+    assert_eq!(rt; access(held(9, read, write), 9, 1), Err(10));
+    assert_eq!(rt; access(held(9, read, write), 1, 1), Err(25));
+    assert_eq!(rt; access(held(2, read, read), 1, 1), Err(25));
     assert_eq!(rt;
-        access_number(held(2, Slot { class: 2, ..read }, write), 1, 1),
-        25
+        access(held(2, Slot { class: 2, ..read }, write), 1, 1),
+        Err(25)
     );
     assert_eq!(rt;
-        access_number(held(2, Slot { task: 1, ..read }, write), 1, 1),
-        25
+        access(held(2, Slot { task: 1, ..read }, write), 1, 1),
+        Err(25)
     );
     assert_eq!(rt;
-        access_number(held(2, Slot { task: 2, ..read }, write), 1, 1),
-        25
+        access(held(2, Slot { task: 2, ..read }, write), 1, 1),
+        Err(25)
     );
     assert_eq!(rt;
-        access_number(held(2, Slot { event: 1, ..read }, write), 1, 1),
-        25
+        access(held(2, Slot { event: 1, ..read }, write), 1, 1),
+        Err(25)
     );
     assert_eq!(rt;
-        access_number(held(1, read, Slot { class: 2, ..read }), 1, 1),
-        0
+        access(held(1, read, Slot { class: 2, ..read }), 1, 1),
+        Ok(None)
     );
-    assert_eq!(rt; access_number(held(2, read, write), 1, 1), 0);
+    assert_eq!(rt; access(held(2, read, write), 1, 1), Ok(None));
 }
 
 #[test]
@@ -104,22 +94,25 @@ fn verdict_is_refused_while_a_scope_is_open(rt: HostRuntime) -> Result<(), Fail>
     let mut table = [Entry::EMPTY; 2];
     let mut bags = Bags::new(&mut table);
     let mut rows = [Row::EMPTY; 2];
-    match Check::start(&bags, &mut rows, 10) {
-        Ok(mut check) => {
-            let _ = check.open_task(&mut bags);
-            let _ = check.access(&mut bags, &Plain {}, &mut rows, 1, 1);
-            match check.verdict(&bags) {
-                Ok(_) => Err(Fail::new("the verdict was taken")),
-                Err(back) => {
-                    let (refusal, mut check) = back;
-                    let _ = check.close(&mut bags);
-                    let counts = check.give_up(&bags);
-                    assert_eq!(rt; refusal.code().number, 26);
-                    assert_eq!(rt; (counts.accesses, counts.clashes, counts.scopes), (1, 0, 2));
-                    Ok(())
-                }
-            }
+    let Ok(mut check) = Check::start(&bags, &mut rows, 10) else {
+        return Err(Fail::new("the start was refused"));
+    };
+    let _ = check.open(&mut bags, Kind::Task);
+    let _ = check.access(&mut bags, &Plain {}, &mut rows, 1, 1);
+    let (refusal, mut check) = match check.verdict(&bags) {
+        Ok(_) => return Err(Fail::new("the verdict was taken")),
+        Err(back) => back,
+    };
+    let _ = check.close(&mut bags);
+    let counts = check.give_up(&bags);
+    assert_eq!(rt; refusal.code().number, 26);
+    assert_eq!(rt;
+        counts,
+        Counts {
+            accesses: 1,
+            clashes: 0,
+            scopes: 2
         }
-        Err(_) => Err(Fail::new("the start was refused")),
-    }
+    );
+    Ok(())
 }

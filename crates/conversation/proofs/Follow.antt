@@ -15,7 +15,7 @@ use Rattle.orderings.specs.declared.questions.Told.{Told}
 use Rattle.orderings.specs.declared.words.Fault.{Fault}
 use Rattle.orderings.specs.declared.words.Kind.{Kind}
 use Rattle.orderings.specs.declared.words.Kind.TheVariants.{Task, Finish}
-use Rattle.orderings.specs.Inquiries.{Comes}
+use Rattle.orderings.specs.Exchanges.{Comes}
 use Rattle.orderings.specs.Questions.{ok_as, telling_past}
 use Rattle.rows.specs.declared.words.RowFault.TheVariants.{Full, Damaged}
 use Rattle.trace_check.specs.declared.words.Call.{Call}
@@ -31,7 +31,8 @@ use Rattle.conversation.specs.Theorem.{RepliesRight, Answered, Clashing, ClashEx
 use Rattle.conversation.proofs.RowsLead.{row, row_leads}
 use Rattle.conversation.proofs.FirstClash.{Exact, answer_exact}
 use Rattle.conversation.proofs.RowsOfHistory.{found_as}
-use Rattle.conversation.proofs.Runs.{after_append, after_tail, put_later, path_later, path_back, Source, source, Good, known_past, RightFrom, good_all}
+use Rattle.orderings.proofs.Turns.{after_append}
+use Rattle.conversation.proofs.Runs.{after_tail, put_later, path_later, path_back, Source, source, Good, known_past, RightFrom, good_all}
 
 -- what an accepted access was answered
 found_is : (a b k m : Bool) (f g : Option (ℕ × ℕ)) (x y z w : Refusal) → Ok (Found f) ≡ cond a (cond b (cond k (cond m (Ok (Found g)) (Err x)) (Err y)) (Err z)) (Err w) → (f ≡ g) × T k
@@ -93,7 +94,7 @@ module _ (s : Setting) (all : List Exchange) (right : RepliesRight s all) where
   good_part b x (rest, e) = good_all s b [] (tt, tt) (λ d y more f. right d y (more ++ x ∷ rest, e ∙ ap (λ (l : List Exchange). l ++ x ∷ rest) f ∙ append_assoc d (y ∷ more) (x ∷ rest)))
 
   events_split : (b : List Exchange) (x : Exchange) (rest : List Exchange) → all ≡ b ++ x ∷ rest → events all ≡ after_all rest (after x (events b))
-  events_split b x rest e = ap events e ∙ after_append b (x ∷ rest) []
+  events_split b x rest e = ap events e ∙ after_append (λ k y. after y k) [] b (x ∷ rest)
 
   module _ (j c r : ℕ) (f : Option (ℕ × ℕ)) (A : Answered all j c r f) where
     abbrev p : History

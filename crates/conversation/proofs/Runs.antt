@@ -16,10 +16,6 @@ use Rattle.orderings.specs.Inquiries.{noted}
 use Rattle.conversation.specs.Replies.{Setting, reply_to, event_of, after, after_all, room_for, first_found}
 use Rattle.conversation.specs.Leaders.{reached}
 
-pub after_append : (xs ys : List Exchange) (h : History) → after_all (xs ++ ys) h ≡ after_all ys (after_all xs h)
-after_append [] ys h = refl
-after_append (x ∷ xs) ys h = after_append xs ys (after x h)
-
 pub tail_trans : {a b c : History} → Tail a b → Tail b c → Tail a c
 tail_trans same t = t
 tail_trans (more s) t = more (tail_trans s t)

@@ -1,7 +1,6 @@
 -- The replies in turn.
-use Rattle.std.proofs.Common.{◌≡◌, ℕ, ◌+◌, ◌<◌, cond, List, [], ◌∷◌, ◌++◌, length, is_err, take, set, ap, ◌∙◌, subst}
+use Rattle.std.proofs.Common.{◌≡◌, ℕ, ◌+◌, ◌<◌, cond, List, [], ◌∷◌, length, is_err, take, set, ap, ◌∙◌}
 use mathlib.Core.Path.{subst⁻¹}
-use Rattle.std.proofs.lemmas.List.{take_more_set}
 use Rattle.graph.specs.History.{History}
 use Rattle.orderings.specs.Meaning.{Meaning}
 use Rattle.rows.specs.declared.row.Row.{Row}
@@ -9,27 +8,15 @@ use Rattle.trace_check.specs.declared.words.Call.{Call}
 use Rattle.conversation.specs.Exchanges.{Answer, Exchange}
 use Rattle.orderings.specs.Inquiries.{noted}
 use Rattle.conversation.specs.Replies.{Setting, reply_to, event_of, after, after_all, events}
-use Rattle.conversation.specs.Theorem.{RepliesRight}
-use Rattle.trace_check.specs.Calls.{View}
+use Rattle.trace_check.specs.View.{View}
 use Rattle.trace_check.specs.Puts.{Store, reply_of, left_by}
 use Rattle.conversation.specs.State.{State}
-use Rattle.conversation.proofs.Runs.{Good, good_after, after_append}
+use Rattle.orderings.proofs.Turns.{InTurn as InTurnOf, one_turn as one_turn_of, after_more}
+use Rattle.conversation.proofs.Runs.{Good, good_after}
 use Rattle.conversation.proofs.Step.{step}
 
 abbrev pub InTurn : Setting → History → List Exchange → Type 0
-InTurn s h [] = Unit {0}
-InTurn s h (x ∷ xs) = (x.reply ≡ reply_to s h x.call) × InTurn s (after x h) xs
-
-pub turn_more : (s : Setting) (h : History) (xs : List Exchange) (x : Exchange) → InTurn s h xs → x.reply ≡ reply_to s (after_all xs h) x.call → InTurn s h (xs ++ x ∷ [])
-turn_more s h [] x t e = (e, tt)
-turn_more s h (y ∷ xs) x (p, t) e = (p, turn_more s (after y h) xs x t e)
-
-turn_at : (s : Setting) (h : History) (b : List Exchange) (x : Exchange) (rest : List Exchange) → InTurn s h (b ++ x ∷ rest) → x.reply ≡ reply_to s (after_all b h) x.call
-turn_at s h [] x rest t = t.0
-turn_at s h (y ∷ b) x rest t = turn_at s (after y h) b x rest t.1
-
-pub turn_right : (s : Setting) (all : List Exchange) → InTurn s [] all → RepliesRight s all
-turn_right s all t b x (rest, e) = turn_at s [] b x rest (subst (InTurn s []) e t)
+InTurn s = InTurnOf (reply_to s) (λ h x. after x h)
 
 pub turn_good : (s : Setting) (h : History) (xs : List Exchange) → Good s h → InTurn s h xs → Good s (after_all xs h)
 turn_good s h [] g t = g
@@ -42,11 +29,10 @@ pub one_turn : (s : Setting) (xs : List Exchange) (i : ℕ) (call : Call) (reply
 one_turn s xs i call reply σ τ l p q (t, S) =
     let h = events (take i xs) in
     let x : Exchange = record { call = call; reply = reply } in
-    let T = take_more_set xs i x l in
     let st = step s h σ S (turn_good s [] (take i xs) (tt, tt) t) call in
     let e : reply ≡ reply_to s h call = p ∙ st.0 in
     let now-state : State s (after x h) τ = subst⁻¹ (State s (after x h)) q (subst⁻¹ (λ (r : Answer). State s (cond (is_err r) h (noted (event_of call) h)) (left_by s.known s.clash σ call)) e st.1) in
-    (subst⁻¹ (InTurn s []) T (turn_more s [] (take i xs) x t e), subst⁻¹ (λ (ys : List Exchange). State s (events ys) τ) T (subst⁻¹ (λ (k : History). State s k τ) (after_append (take i xs) (x ∷ []) []) now-state))
+    (one_turn_of (reply_to s) (λ k y. after y k) [] xs i x l e t, subst⁻¹ (λ (k : History). State s k τ) (after_more (λ k y. after y k) [] xs i x l) now-state)
 
 pub store_eq : (σ τ : Store) → τ.check ≡ σ.check → τ.meaning ≡ σ.meaning → τ.rows ≡ σ.rows → τ ≡ σ
 store_eq σ τ a b c =

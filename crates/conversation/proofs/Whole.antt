@@ -4,7 +4,7 @@ use mathlib.Core.Path.{subst⁻¹}
 use Rattle.std.proofs.lemmas.List.{get_or-replicate, length-replicate}
 use Rattle.graph.specs.History.{History, Scope, scopes}
 use Rattle.orderings.specs.Meaning.{Meaning, WellFormed}
-use Rattle.orderings.specs.Inquiries.{calls_of}
+use Rattle.orderings.specs.Exchanges.{calls_of}
 use Rattle.orderings.specs.Past.{Means}
 use Rattle.orderings.proofs.Means.{means_new}
 use Rattle.rows.specs.declared.row.Row.{Row}
@@ -17,7 +17,8 @@ use Rattle.conversation.specs.Exchanges.{Exchange}
 use Rattle.trace_check.specs.declared.words.Refusal.TheVariants.{BadStart, AlreadyBegun}
 use Rattle.conversation.specs.Replies.{Setting, events, accesses, clashes_found}
 use Rattle.conversation.specs.Theorem.{RepliesRight}
-use Rattle.trace_check.specs.Calls.{View, is_between, start_answer, new_check, counted}
+use Rattle.trace_check.specs.View.{View}
+use Rattle.trace_check.specs.Calls.{is_between, start_answer, new_check, counted}
 use Rattle.trace_check.specs.Puts.{Store}
 use Rattle.conversation.specs.State.{State}
 use Rattle.conversation.specs.Conversation.{setting, counts, ending, end_answer, Conversation}

@@ -1,7 +1,7 @@
 -- A whole conversation with a check, from its start to its end.
 use Rattle.std.specs.Prelude.{◌≡◌, ℕ, ◌<◌, Bool, cond, List, length, Ok, Err, Result, ◌==◌, slice_index_or}
 use Rattle.graph.specs.History.{History, begun, scopes}
-use Rattle.orderings.specs.Inquiries.{calls_of}
+use Rattle.orderings.specs.Exchanges.{calls_of}
 use Rattle.orderings.specs.Meaning.{Meaning}
 use Rattle.orderings.specs.Past.{Means}
 use Rattle.rows.specs.declared.row.Row.{Row}
@@ -15,7 +15,8 @@ use Rattle.trace_check.specs.declared.words.Refusal.{Refusal}
 use Rattle.conversation.specs.Leaders.{row_of}
 use Rattle.conversation.specs.Replies.{Setting, events, accesses, clashes_found}
 use Rattle.conversation.specs.Theorem.{RepliesRight, Facts}
-use Rattle.trace_check.specs.Calls.{View, start_answer, new_check, counted}
+use Rattle.trace_check.specs.View.{View}
+use Rattle.trace_check.specs.Calls.{start_answer, new_check, counted}
 
 -- the setting of a check that starts on a meaning and rows, under a rule
 abbrev pub setting : ℕ → Meaning → List Row → (ℕ → Bool) → (ℕ → ℕ → Bool) → Setting

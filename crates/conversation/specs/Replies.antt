@@ -2,6 +2,7 @@
 use Rattle.std.specs.Prelude.{ℕ, ◌+◌, Bool, true, false, cond, List, [], ◌∷◌, length, is_err, Some, None, Option, Ok, Err, ◌==◌, nat_le, nat_lt}
 use Rattle.graph.specs.History.{Event, open_task, open_finish, close, access, History, begun, scopes, innermost, place, is_unordered}
 use Rattle.orderings.specs.declared.words.Fault.TheVariants.{NoNumberLeft, MainAlone}
+use Rattle.orderings.specs.Exchanges.{after_each}
 use Rattle.orderings.specs.Inquiries.{opens, noted}
 use Rattle.orderings.specs.Questions.{ok_as, telling_past}
 use Rattle.trace_check.specs.declared.words.Call.{Call}
@@ -91,8 +92,7 @@ abbrev pub after : Exchange → History → History
 after x h = cond (is_err x.reply) h (noted (event_of x.call) h)
 
 abbrev pub after_all : List Exchange → History → History
-after_all [] h = h
-after_all (x ∷ xs) h = after_all xs (after x h)
+after_all xs h = after_each (λ k x. after x k) h xs
 
 -- the events accepted in a conversation
 abbrev pub events : List Exchange → History

@@ -5,7 +5,7 @@ use Rattle.graph.specs.Graph.{Path, IsAccess}
 use Rattle.graph.specs.Orders.{Exchangeable}
 use Rattle.graph.specs.Reads.{SameReads}
 use Rattle.rules.specs.Rules.{depot}
-use Rattle.orderings.specs.Inquiries.{Comes}
+use Rattle.orderings.specs.Exchanges.{Comes}
 use Rattle.trace_check.specs.declared.words.Call.TheVariants.{Access}
 use Rattle.trace_check.specs.declared.words.Refusal.TheVariants.{Row}
 use Rattle.rows.specs.declared.words.RowFault.TheVariants.{Damaged}

@@ -2,10 +2,9 @@
 #![tactic(auto)]
 
 ghost use Rattle.std.specs.Prelude.{◌≡◌, Err};
-ghost use Rattle.trace_check.specs.Calls.{view};
 ghost use Rattle.trace_check.specs.Puts.{store};
 ghost use Rattle.conversation.specs.State.{Ran};
-ghost use Rattle.orderings.specs.Inquiries.{calls_of};
+ghost use Rattle.orderings.specs.Exchanges.{calls_of};
 ghost use Rattle.conversation.specs.Conversation.{setting, end_answer, Conversed};
 
 use orderings::Ordering;
@@ -17,7 +16,7 @@ mod theorem;
 mod words;
 
 pub use theorem::{facts_follow, worked_through};
-pub use words::{Ending, Exchange};
+pub use words::{Ending, Exchange, to_put};
 
 /// Puts each call in turn, and writes the reply beside it.
 fn run<O: Ordering, R: ClashRule>(
@@ -43,7 +42,7 @@ fn run<O: Ordering, R: ClashRule>(
 /// Takes the verdict, or gives up while a scope besides main is open.
 fn end<O: Ordering>(check: Check, ordering: &O) -> Ending
     ensures { O.Ordering.sound ordering.now →
-        result ≡ end_answer (view check) (O.Ordering.meaning ordering.now) }
+        result ≡ end_answer check (O.Ordering.meaning ordering.now) }
 {
     match check.verdict(ordering) {
         Ok(counts) => Ending::Verdict(counts),

@@ -1,14 +1,12 @@
 -- A list of requests, one after the other: the meaning follows the events accepted, and its words are those of the graph.
-use Rattle.std.proofs.Common.{is_err, Result, ◌≡◌, ℕ, ◌+◌, ◌<◌, Bool, true, false, cond, eqb, leb, ◌↔◌, List, [], ◌∷◌, ◌++◌, length, get_or, take, set, Some, None, Ok, Err, Option, sym, refl, ap, ◌∙◌, subst, inl, arith, leb-false}
+use Rattle.std.proofs.Common.{is_err, Result, ◌≡◌, ℕ, ◌+◌, ◌<◌, Bool, true, false, cond, eqb, leb, ◌↔◌, List, [], ◌∷◌, length, take, set, Some, None, Ok, Err, Option, sym, refl, ap, ◌∙◌, subst, inl, arith, leb-false}
 use mathlib.Core.Path.{subst⁻¹}
 use borrow.Author.Tests.{eqb-false}
-use Rattle.std.proofs.lemmas.List.{take_more_set, map-set, set-get_or}
 use Rattle.graph.specs.History.{close, History, Scope, task, innermost, Accepted, Place, before, unordered, place, innermost_task, Before, Unordered as UnorderedIn}
 use Rattle.graph.specs.Graph.{Of, Closes}
 use Rattle.graph.specs.Theorems.{WordsRight}
 use Rattle.graph.proofs.OpenScopes.{On, Tail, same, more, put_past}
 use Rattle.graph.proofs.WordsArePaths.{words_are_paths}
-use Rattle.orderings.specs.declared.exchange.Exchange.{Exchange}
 use Rattle.orderings.specs.declared.inquiries.Request.{Request}
 use Rattle.orderings.specs.declared.inquiries.Request.TheVariants.{Open, Close, Ask}
 use Rattle.orderings.specs.declared.inquiries.Response.{Response}
@@ -22,43 +20,24 @@ use Rattle.orderings.specs.declared.questions.Told.TheVariants.{Word as OfWord}
 use Rattle.orderings.specs.Meaning.{Meaning, WellFormed, with_scope, without_innermost, word}
 use Rattle.orderings.specs.Past.{kind_of, Means}
 use Rattle.orderings.specs.Questions.{ok_as, telling, word_of_past}
-use Rattle.orderings.specs.Inquiries.{Inquiry, calls_of, response_to, after_request, after_requests, opens, event_of, noted, events_after, events, Comes, ClosedWithoutPath, unordered_said, Inquired}
+use Rattle.orderings.specs.Inquiries.{Inquiry, response_to, after_request, after_inquiry, after_requests, opens, event_of, noted, events_after, events, ClosedWithoutPath, unordered_said, Inquired}
 use Rattle.orderings.proofs.Means.{means_open, means_close, means_new, kind_stays, kind_open}
+use Rattle.orderings.specs.Exchanges.{Comes}
 use Rattle.orderings.proofs.Telling.{telling_as}
+use Rattle.orderings.proofs.Turns.{InTurn as InTurnOf, one_turn as one_turn_of, turn_part, turn_right, after_more}
 
 -- the responses are those of the meanings in turn
 abbrev pub InTurn : Meaning → List Inquiry → Type 0
-InTurn m [] = Unit {0}
-InTurn m (x ∷ xs) = (x.reply ≡ response_to m x.call) × InTurn (after_request m x.call) xs
-
-turn_more : (m : Meaning) (xs : List Inquiry) (x : Inquiry) → InTurn m xs → x.reply ≡ response_to (after_requests m xs) x.call → InTurn m (xs ++ x ∷ [])
-turn_more m [] x t e = (e, tt)
-turn_more m (y ∷ xs) x (p, t) e = (p, turn_more (after_request m y.call) xs x t e)
-
-turn_part : (m : Meaning) (b : List Inquiry) (rest : List Inquiry) → InTurn m (b ++ rest) → InTurn m b
-turn_part m [] rest t = tt
-turn_part m (y ∷ b) rest (p, t) = (p, turn_part (after_request m y.call) b rest t)
-
-turn_at : (m : Meaning) (b : List Inquiry) (x : Inquiry) (rest : List Inquiry) → InTurn m (b ++ x ∷ rest) → x.reply ≡ response_to (after_requests m b) x.call
-turn_at m [] x rest t = t.0
-turn_at m (y ∷ b) x rest t = turn_at (after_request m y.call) b x rest t.1
-
-after_more : (m : Meaning) (xs : List Inquiry) (x : Inquiry) → after_requests m (xs ++ x ∷ []) ≡ after_request (after_requests m xs) x.call
-after_more m [] x = refl
-after_more m (y ∷ xs) x = after_more (after_request m y.call) xs x
+InTurn = InTurnOf response_to after_inquiry
 
 -- one inquiry more
 pub one_turn : (m current next : Meaning) (xs : List Inquiry) (i : ℕ) (x : Inquiry) → i < length xs → x.reply ≡ response_to current x.call → next ≡ after_request current x.call →
     InTurn m (take i xs) × (current ≡ after_requests m (take i xs)) →
     InTurn m (take (i + 1) (set xs i x)) × (next ≡ after_requests m (take (i + 1) (set xs i x)))
-one_turn m current next xs i x l p q (t, e) =
-    let T = take_more_set xs i x l in (
-      subst⁻¹ (InTurn m) T (turn_more m (take i xs) x t (p ∙ ap (λ (v : Meaning). response_to v x.call) e)),
-      q ∙ ap (λ (v : Meaning). after_request v x.call) e ∙ sym (after_more m (take i xs) x) ∙ ap (after_requests m) (sym T),
-    )
-
-pub same_calls : {C R : Type 0} (xs : List (Exchange C R)) (i : ℕ) (d : Exchange C R) (reply : R) → calls_of (set xs i (record { call = (get_or xs i d).call; reply = reply })) ≡ calls_of xs
-same_calls {C} {R} xs i d reply = map-set (λ (x : Exchange C R). x.call) xs i (record { call = (get_or xs i d).call; reply = reply }) ∙ sym (map-set (λ (x : Exchange C R). x.call) xs i (get_or xs i d)) ∙ ap calls_of (set-get_or xs i d)
+one_turn m current next xs i x l p q (t, e) = (
+  one_turn_of response_to after_inquiry m xs i x l (p ∙ ap (λ (v : Meaning). response_to v x.call) e) t,
+  q ∙ ap (λ (v : Meaning). after_request v x.call) e ∙ sym (after_more after_inquiry m xs i x l),
+)
 
 -- the meaning is that of the history, and every close was accepted
 abbrev Follows : ℕ → History → Meaning → Type 0
@@ -140,10 +119,10 @@ pub inquired : (m m' : Meaning) (all : List Inquiry) → WellFormed m → InTurn
 inquired m m' all w t e = record { responses = right; meaning = e; words = λ one b x c u q. words one b x c u q }
   where
     right : (b : List Inquiry) (x : Inquiry) → Comes all b x → x.reply ≡ response_to (after_requests m b) x.call
-    right b x (rest, f) = turn_at m b x rest (subst (InTurn m) f t)
+    right = turn_right response_to after_inquiry m all t
 
     words : length m.begun ≡ 1 → (b : List Inquiry) (x : Inquiry) → Comes all b x → (u : ℕ) → x.call ≡ Ask (WordOf u) → (x.reply ≡ unordered_said) ↔ ClosedWithoutPath (events b) u
     words one b x c u q =
-        let F = follows_all m.left b [] m (means_new m w one, tt) (turn_part m b (x ∷ c.0) (subst (InTurn m) c.1 t)) in
+        let F = follows_all m.left b [] m (means_new m w one, tt) (turn_part response_to after_inquiry m b (x ∷ c.0) (subst (InTurn m) c.1 t)) in
         let said : x.reply ≡ ok_as ToldSo (word_of_past (events b) u (kind_of (events b) u)) = right b x c ∙ ap (response_to (after_requests m b)) q ∙ ap (ok_as ToldSo) (telling_as m.left (events b) (after_requests m b) F.0 (WordOf u)) in
         subst⁻¹ (λ (r : Result Response Fault). (r ≡ unordered_said) ↔ ClosedWithoutPath (events b) u) said (word_exact (events b) F.1 u)

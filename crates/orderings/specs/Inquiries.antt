@@ -1,5 +1,5 @@
 -- A list of requests to an ordering, and the responses.
-use Rattle.std.specs.Prelude.{◌≡◌, ℕ, cond, ◌↔◌, List, [], ◌∷◌, ◌++◌, map, length, is_err, Some, None, Ok, Option, Result}
+use Rattle.std.specs.Prelude.{◌≡◌, ℕ, cond, ◌↔◌, List, [], ◌∷◌, length, is_err, Some, None, Ok, Option, Result}
 use Rattle.graph.specs.History.{Event, open_task, open_finish, close, access, History, task}
 use Rattle.graph.specs.Graph.{Closes, Path}
 use Rattle.orderings.specs.declared.exchange.Exchange.{Exchange}
@@ -13,15 +13,13 @@ use Rattle.orderings.specs.declared.words.Fault.{Fault}
 use Rattle.orderings.specs.declared.words.Kind.{Kind}
 use Rattle.orderings.specs.declared.words.Kind.TheVariants.{Task, Finish}
 use Rattle.orderings.specs.declared.words.Word.TheVariants.{Unordered}
+use Rattle.orderings.specs.Exchanges.{Comes, after_each}
 use Rattle.orderings.specs.Meaning.{Meaning, opening, after_open, closing, after_close}
 use Rattle.orderings.specs.Questions.{ok_as, telling}
 
 -- a request, and the response to it
 abbrev pub Inquiry : Type 0
 Inquiry = Exchange Request (Result Response Fault)
-
-abbrev pub calls_of : {C R : Type 0} → List (Exchange C R) → List C
-calls_of {C} {R} xs = map (λ (x : Exchange C R). x.call) xs
 
 -- the response to a request, from the meaning before it
 abbrev pub response_to : Meaning → Request → Result Response Fault
@@ -35,9 +33,11 @@ after_request m (Open k) = after_open k m
 after_request m Close = after_close m
 after_request m (Ask q) = m
 
+abbrev pub after_inquiry : Meaning → Inquiry → Meaning
+after_inquiry m x = after_request m x.call
+
 abbrev pub after_requests : Meaning → List Inquiry → Meaning
-after_requests m [] = m
-after_requests m (x ∷ xs) = after_requests (after_request m x.call) xs
+after_requests = after_each after_inquiry
 
 -- the event that an open of a kind is
 abbrev pub opens : Kind → Event
@@ -54,17 +54,16 @@ abbrev pub noted : Option Event → History → History
 noted None h = h
 noted (Some e) h = e ∷ h
 
+-- the events accepted after an inquiry
+abbrev pub noted_if_accepted : History → Inquiry → History
+noted_if_accepted h x = cond (is_err x.reply) h (noted (event_of x.call) h)
+
 -- the events accepted, after those of h
 abbrev pub events_after : List Inquiry → History → History
-events_after [] h = h
-events_after (x ∷ xs) h = events_after xs (cond (is_err x.reply) h (noted (event_of x.call) h))
+events_after xs h = after_each noted_if_accepted h xs
 
 abbrev pub events : List Inquiry → History
 events xs = events_after xs []
-
--- x comes right after those `before`
-abbrev pub Comes : {A : Type 0} → List A → List A → A → Type 0
-Comes {A} all before x = (rest : List A) × (all ≡ before ++ x ∷ rest)
 
 -- task t is closed, and the graph of the events has no path from its close to an access put next
 abbrev pub ClosedWithoutPath : History → ℕ → Type 0

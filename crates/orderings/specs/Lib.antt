@@ -2,6 +2,7 @@ pub mod Meaning
 pub mod Numbers
 pub mod Past
 pub mod Questions
+pub mod Exchanges
 pub mod Inquiries
 pub mod Forest
 pub mod Store

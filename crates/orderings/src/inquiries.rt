@@ -1,6 +1,7 @@
 //! A list of opens, closes and questions put to an ordering, and what is proved of every such list.
 ghost use Rattle.std.specs.Prelude.{◌≡◌, Err};
-ghost use Rattle.orderings.specs.Inquiries.{calls_of, response_to, after_request, Inquired};
+ghost use Rattle.orderings.specs.Exchanges.{calls_of};
+ghost use Rattle.orderings.specs.Inquiries.{response_to, after_request, Inquired};
 
 use crate::exchange::Exchange;
 use crate::ordering::Ordering;

@@ -22,5 +22,5 @@ rule_of n =
 pub record FoundBy (n : ℕ) (answer : Result Rule UnknownRule) : Type 0 where
   pub found : answer ≡ rule_of n
   pub numbered : MatchResult answer
-    (λ rule. number_of rule ≡ n)
-    (λ _. (rule : Rule) → number_of rule ≢ n)
+      (λ rule. number_of rule ≡ n)
+      (λ _. (rule : Rule) → number_of rule ≢ n)

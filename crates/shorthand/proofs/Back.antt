@@ -1,9 +1,11 @@
 -- A plan that was written is read back.
-use Rattle.std.proofs.Common.{◌≡◌, ℕ, zero, suc, ◌+◌, ◌-◌, ◌*◌, ◌/◌, ◌%◌, ◌^◌, ◌<◌, Bool, true, false, ◌&&◌, eqb, ltb, List, [], ◌∷◌, ◌++◌, length, drop, Some, None, Ok, codes, decimal, Result, refl, ap, ◌∙◌, add-zero, arith, lit<}
+use Rattle.std.proofs.Common.{◌≡◌, ℕ, zero, suc, ◌+◌, ◌-◌, ◌*◌, ◌/◌, ◌%◌, ◌^◌, ◌<◌, true, false, eqb, List, [], ◌∷◌, ◌++◌, length, drop, Some, None, Ok, codes, decimal, Result, refl, ap, ◌∙◌, add-zero, arith}
+use Rattle.std.proofs.Math.Bool.{and-false}
 use Rattle.std.specs.Str.Parse.{AllDigits, digits_value_after}
 use Rattle.std.specs.Char.{is_ascii_digit, digit_value}
 use Rattle.std.proofs.lemmas.Fmt.{decimal_is_IsNumeral}
 use Rattle.std.proofs.lemmas.List.{drop_at}
+use Rattle.std.proofs.lemmas.Bool.{le-ltb}
 use Rattle.std.proofs.lemmas.Bool.Decides.{nat_tests}
 use Rattle.rules.specs.declared.Rule.{Rule}
 use Rattle.rules.specs.declared.Rule.TheVariants.{Plain, Depot, Field}
@@ -11,11 +13,10 @@ use Rattle.shorthand.specs.declared.words.Action.{Action}
 use Rattle.shorthand.specs.declared.words.Action.TheVariants.{OpenTask, OpenFinish, Close, Access, Ask}
 use Rattle.shorthand.specs.declared.words.Fault.{Fault}
 use Rattle.shorthand.specs.declared.words.Plan.{Plan}
-use Rattle.shorthand.specs.Numbers.{digits_on, fitting, number_at}
+use Rattle.shorthand.specs.Numbers.{digits_on, number_at}
 use Rattle.shorthand.specs.Actions.{hex, acting, action_at}
-use Rattle.shorthand.specs.Reading.{is_blank, heading, Reading, reading, said, counted, told, put_over, read_answer, read_into}
+use Rattle.shorthand.specs.Reading.{is_blank, heading, reading, said, put_over, read_answer, read_into}
 use Rattle.shorthand.specs.Written.{digit, class_text, action_text, actions_text, written, Fits, AllFit, FromPlan, ReadBack}
-use Rattle.shorthand.proofs.Digits.{fitting_read}
 use Rattle.shorthand.proofs.Said.{ahead, said_on, step_blank, step_action}
 
 digit_reads : (d : ℕ) → digit_value d < 10 → is_ascii_digit d ≡ true
@@ -39,7 +40,7 @@ number_read at n rest h =
     let p : digits_on 0 at (decimal n ++ 32 ∷ rest) ≡ (n, at + length (decimal n)) =
     digits_read 0 at (decimal n) 32 rest d.0.1 refl ∙ ap (λ (v : ℕ). (v, at + length (decimal n))) d.1 in
     let some : 0 < length (decimal n) = d.0.0 in
-    ap (fitting at) p ∙ fitting_read at (n, at + length (decimal n)) (omega arith) h
+    rw p (grind (arith, nat_tests))
 
 -- An action a stands at the front of a text, its first character at the place `at`, and `rest` is behind it.
 record Stands (at : ℕ) (a : Action) (l rest : List ℕ) : Type 0 where
@@ -66,26 +67,16 @@ module _ (at n : ℕ) (rest : List ℕ) (h : n < 2 ^ 32) (c : ℕ) (a : ℕ → 
         behind = drop_at (decimal n) (32 ∷ rest) (length (decimal n)) refl;
       }
 
--- no action's letter is a digit of a class
-other : (v k : ℕ) → v < 16 → 70 < k → eqb (digit v) k ≡ false
-other v k h j = grind (arith, nat_tests)
-
-other_sign : (v k : ℕ) → v < 16 → k < 48 → eqb (digit v) k ≡ false
-other_sign v k h j = grind (arith, nat_tests)
-
-mark : (v : ℕ) → v < 16 → eqb (digit v) 63 ≡ false
-mark v h = grind (arith, nat_tests)
+-- no other action begins with a digit of a class
+other : (v c : ℕ) → v < 16 → hex c ≡ None → eqb (digit v) c ≡ false
+other v c h e = grind (arith, nat_tests)
 
 hex_digit : (v : ℕ) → v < 16 → hex (digit v) ≡ Some v
 hex_digit v h = grind (arith, nat_tests)
 
-never : (b : Bool) → b && false ≡ false
-never true = refl
-never false = refl
-
 digit_first : (at v w : ℕ) (l : List ℕ) → v < 16 → w < 16 → action_at at (digit v) (digit w ∷ 64 ∷ l) ≡ acting (Access (16 * v + w)) (number_at (at + 3) l)
 digit_first at v w l h k =
-    rw (other v 84 h (lit< tt), hex_digit w k, never (eqb (digit v) 70), other_sign v 41 h (lit< tt), other v 114 h (lit< tt), other v 119 h (lit< tt), other v 97 h (lit< tt), mark v h, hex_digit v h)
+    rw (other v 84 h refl, hex_digit w k, and-false, other v 41 h refl, other v 114 h refl, other v 119 h refl, other v 97 h refl, other v 63 h refl, hex_digit v h)
 
 -- two digits, an @ and a number
 classed : (at c n : ℕ) (rest : List ℕ) → c < 256 → n < 2 ^ 32 → Stands at (Access c n) (digit (c / 16) ∷ digit (c % 16) ∷ 64 ∷ decimal n ++ 32 ∷ rest) (32 ∷ rest)
@@ -105,11 +96,7 @@ classed at c n rest h k =
     }
 
 hex_text : (c : ℕ) → 2 < c → class_text c ≡ digit (c / 16) ∷ digit (c % 16) ∷ codes "@"
-hex_text c h =
-    let e : eqb c 0 ≡ false = grind (arith, nat_tests) in
-    let f : eqb c 1 ≡ false = grind (arith, nat_tests) in
-    let g : eqb c 2 ≡ false = grind (arith, nat_tests) in
-    rw (e, f, g)
+hex_text c h = grind (arith, nat_tests)
 
 stands : (at : ℕ) (a : Action) (rest : List ℕ) → Fits a → Stands at a (action_text a ++ 32 ∷ rest) (32 ∷ rest)
 stands at OpenTask rest h = record { first = 84; tail = 32 ∷ rest; begins = refl; seen = refl; more = 0; acts = rw add-zero; behind = refl }
@@ -137,31 +124,28 @@ actions_back (a ∷ rest) h at =
 named_back : (l : List ℕ) (actions : List Action) → AllFit actions → drop 5 l ≡ 32 ∷ actions_text actions → said 5 0 l ≡ record { actions = actions; fault = None }
 named_back l actions h e = said_on 5 0 l ∙ rw e (step_blank 5 32 (actions_text actions) refl ∙ actions_back actions h 6)
 
-pub reading_back : (rule : Rule) (actions : List Action) → AllFit actions → reading (written rule actions) ≡ record { actions = actions; fault = None }
+reading_back : (rule : Rule) (actions : List Action) → AllFit actions → reading (written rule actions) ≡ record { actions = actions; fault = None }
 reading_back (Plain r) actions h = named_back (written (Plain r) actions) actions h refl
 reading_back (Depot r) actions h = named_back (written (Depot r) actions) actions h refl
 reading_back (Field r) actions h = named_back (written (Field r) actions) actions h refl
 
-pub heading_back : (rule : Rule) (actions : List Action) → (heading 0 (written rule actions)).0 ≡ rule
+heading_back : (rule : Rule) (actions : List Action) → (heading 0 (written rule actions)).0 ≡ rule
 heading_back (Plain _) actions = refl
 heading_back (Depot _) actions = refl
 heading_back (Field _) actions = refl
 
 module _ (text : List ℕ) (places : List Action) (rule : Rule) (actions : List Action) (from : FromPlan text places rule actions) where
-  has_room : ltb (length places) (length text) ≡ false
-  has_room = let h = from.room in grind (arith, nat_tests)
-
   says : reading text ≡ record { actions = actions; fault = None }
-  says = ap reading from.is ∙ reading_back rule actions from.fit
+  says = rw from.is (reading_back rule actions from.fit)
 
   names : (heading 0 text).0 ≡ rule
-  names = ap (λ (l : List ℕ). (heading 0 l).0) from.is ∙ heading_back rule actions
+  names = rw from.is (heading_back rule actions)
 
   plan_back : read_answer (length places) text ≡ Ok (record { rule = rule; count = length actions })
-  plan_back = rw has_room (ap (λ (x : Reading). told (heading 0 text).0 (counted x)) says ∙ ap (λ (x : Rule). told x (Ok (length actions))) names)
+  plan_back = rw (le-ltb (length places) (length text) from.room, says, names)
 
   put_back : read_into places text ≡ put_over actions places
-  put_back = rw has_room (ap (λ (x : Reading). put_over x.actions places) says)
+  put_back = rw (le-ltb (length places) (length text) from.room, says)
 
 pub read_back : (text : List ℕ) (places places' : List Action) (r : Result Plan Fault) → r ≡ read_answer (length places) text → places' ≡ read_into places text → ReadBack text places places' r
 read_back text places places' r e f =

@@ -1,7 +1,6 @@
 -- What a text says, step by step.
-use Rattle.std.proofs.Common.{◌≡◌, ℕ, zero, suc, ◌+◌, ◌-◌, ◌<◌, ◌≤◌, true, false, ltb, List, [], ◌∷◌, ◌++◌, length, get_or, drop, Some, None, Ok, Err, sym, refl, ap, ◌∙◌, add-zero, arith}
-use Rattle.std.proofs.lemmas.List.{drop_more, drop_all, drop-drop}
-use Rattle.std.proofs.lemmas.Bool.Decides.{nat_tests}
+use Rattle.std.proofs.Common.{◌≡◌, ℕ, zero, suc, ◌+◌, ◌≤◌, true, false, List, [], ◌∷◌, ◌++◌, drop, Some, Ok, Err, sym, refl, ap, ◌∙◌, add-zero, arith}
+use Rattle.std.proofs.lemmas.Bool.{le-ltb, lt-ltb}
 use Rattle.shorthand.specs.declared.words.Action.{Action}
 use Rattle.shorthand.specs.declared.words.Misread.{Misread}
 use Rattle.shorthand.specs.Actions.{action_at}
@@ -11,54 +10,29 @@ use Rattle.shorthand.specs.Reading.{is_blank, Reading, said}
 abbrev pub ahead : List Action → Reading → Reading
 ahead done r = record { actions = done ++ r.actions; fault = r.fault }
 
-not_before : (from at : ℕ) → from ≤ at → ltb at from ≡ false
-not_before from at h = grind (arith, nat_tests)
-
 -- where nothing is passed over, it does not matter from where
 pub said_here : (from at : ℕ) (l : List ℕ) → from ≤ at → said from at l ≡ said at at l
 said_here from at [] h = refl
 said_here from at (c ∷ l) h =
-    let e = not_before from at h in
-    let f = not_before at at (omega arith) in
     let g : said from (at + 1) l ≡ said at (at + 1) l = said_here from (at + 1) l (omega arith) ∙ sym (said_here at (at + 1) l (omega arith)) in
-    rw (e, f, g)
+    rw (le-ltb at from h, le-ltb at at (omega arith), g)
 
 -- what stands before the place read from is passed over
 pub said_on : (k at : ℕ) (l : List ℕ) → said (at + k) at l ≡ said (at + k) (at + k) (drop k l)
 said_on zero at l = rw add-zero
 said_on (suc k) at [] = refl
 said_on (suc k) at (c ∷ l) =
-    let b : ltb at (at + suc k) ≡ true = grind (arith, nat_tests) in
     let e : at + suc k ≡ (at + 1) + k = omega arith in
-    rw (b, e) (said_on k (at + 1) l)
+    rw (lt-ltb at (at + suc k) (omega arith), e) (said_on k (at + 1) l)
 
 -- at the first character of a text
 module _ (at c : ℕ) (l : List ℕ) where
   pub step_blank : is_blank c ≡ true → said at at (c ∷ l) ≡ said (at + 1) (at + 1) l
-  step_blank e = rw (not_before at at (omega arith), e) (said_here at (at + 1) l (omega arith))
+  step_blank e = rw (le-ltb at at (omega arith), e) (said_here at (at + 1) l (omega arith))
 
   -- k characters of the action follow
   pub step_action : is_blank c ≡ false → (a : Action) (k : ℕ) → action_at at c l ≡ Ok (a, (at + 1) + k) → said at at (c ∷ l) ≡ ahead (a ∷ []) (said ((at + 1) + k) ((at + 1) + k) (drop k l))
-  step_action e a k p = rw (not_before at at (omega arith), e, p) (ap (ahead (a ∷ [])) (said_on k (at + 1) l))
+  step_action e a k p = rw (le-ltb at at (omega arith), e, p) (ap (ahead (a ∷ [])) (said_on k (at + 1) l))
 
   pub step_wrong : is_blank c ≡ false → (m : Misread) → action_at at c l ≡ Err m → said at at (c ∷ l) ≡ record { actions = []; fault = Some m }
-  step_wrong e m p = rw (not_before at at (omega arith), e, p)
-
--- at the place `at` of a text
-module _ (l : List ℕ) (at : ℕ) (within : at < length l) where
-  pub said_blank : is_blank (get_or l at 0) ≡ true → said at at (drop at l) ≡ said (at + 1) (at + 1) (drop (at + 1) l)
-  said_blank e = rw (drop_more l at 0) (step_blank at (get_or l at 0) (drop (at + 1) l) e)
-
-  pub said_action : is_blank (get_or l at 0) ≡ false → (a : Action) (end : ℕ) → action_at at (get_or l at 0) (drop (at + 1) l) ≡ Ok (a, end) → at < end → said at at (drop at l) ≡ ahead (a ∷ []) (said end end (drop end l))
-  said_action e a end p h =
-      let k : ℕ = end - (at + 1) in
-      let q : (at + 1) + k ≡ end = omega arith in
-      let s : said at at (drop at l) ≡ ahead (a ∷ []) (said ((at + 1) + k) ((at + 1) + k) (drop k (drop (at + 1) l))) =
-      rw (drop_more l at 0) (step_action at (get_or l at 0) (drop (at + 1) l) e a k (rw q p)) in
-      simp (drop-drop, q) at s
-
-  pub said_wrong : is_blank (get_or l at 0) ≡ false → (m : Misread) → action_at at (get_or l at 0) (drop (at + 1) l) ≡ Err m → said at at (drop at l) ≡ record { actions = []; fault = Some m }
-  said_wrong e m p = rw (drop_more l at 0) (step_wrong at (get_or l at 0) (drop (at + 1) l) e m p)
-
-pub said_end : (l : List ℕ) (from at : ℕ) → length l ≤ at → said from at (drop at l) ≡ record { actions = []; fault = None }
-said_end l from at h = rw (drop_all at l)
+  step_wrong e m p = rw (le-ltb at at (omega arith), e, p)

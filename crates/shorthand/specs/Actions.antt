@@ -1,5 +1,5 @@
 -- Actions in a text.
-use Rattle.std.specs.Prelude.{ℕ, ◌+◌, ◌-◌, ◌*◌, ◌<◌, Bool, cond, not, ◌&&◌, List, drop, is_some, Some, None, Ok, Err, codes, Option, Result, ◌==◌, nat_le, slice_index, slice_index_or}
+use Rattle.std.specs.Prelude.{ℕ, ◌+◌, ◌-◌, ◌*◌, Bool, cond, not, ◌&&◌, List, drop, is_some, Some, None, Ok, Err, codes, Option, Result, ◌==◌, nat_le, slice_index, slice_index_or}
 use Prim.Native.String.{String}
 use Rattle.shorthand.specs.declared.words.Action.{Action}
 use Rattle.shorthand.specs.declared.words.Action.TheVariants.{OpenTask, OpenFinish, Close, Access, Ask}
@@ -16,11 +16,6 @@ c has s = c == slice_index (codes s) 0
 -- the value of a hexadecimal digit, 0 to 9 and A to F
 abbrev pub hex : ℕ → Option ℕ
 hex c = cond (nat_le 48 c && nat_le c 57) (Some (c - 48)) (cond (nat_le 65 c && nat_le c 70) (Some (c - 55)) None)
-
--- a digit has a value below 16, and is not the character 0
-abbrev pub Digit : ℕ → Option ℕ → Type 0
-Digit c (Some v) = (v < 16) × (0 < c)
-Digit c None = Unit {0}
 
 -- the action that a number belongs to
 abbrev pub acting : (ℕ → Action) → Result (ℕ × ℕ) Misread → Result (Action × ℕ) Misread

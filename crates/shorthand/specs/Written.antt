@@ -1,17 +1,12 @@
 -- How a plan is written, and that it is read back.
 use Rattle.std.specs.Prelude.{◌≡◌, ℕ, ◌+◌, ◌/◌, ◌%◌, ◌^◌, ◌<◌, ◌≤◌, cond, List, [], ◌∷◌, ◌++◌, length, Ok, codes, decimal, Result, ◌==◌, nat_lt}
 use Rattle.rules.specs.declared.Rule.{Rule}
-use Rattle.rules.specs.declared.Rule.TheVariants.{Plain, Depot, Field}
+use Rattle.rules.specs.Names.{rule_name}
 use Rattle.shorthand.specs.declared.words.Action.{Action}
 use Rattle.shorthand.specs.declared.words.Action.TheVariants.{OpenTask, OpenFinish, Close, Access, Ask}
 use Rattle.shorthand.specs.declared.words.Fault.{Fault}
 use Rattle.shorthand.specs.declared.words.Plan.{Plan}
 use Rattle.shorthand.specs.Reading.{put_over}
-
-abbrev pub name : Rule → List ℕ
-name (Plain _) = codes "plain"
-name (Depot _) = codes "depot"
-name (Field _) = codes "field"
 
 -- the hexadecimal digit of a value below 16
 abbrev pub digit : ℕ → ℕ
@@ -39,7 +34,7 @@ actions_text (a ∷ rest) = action_text a ++ 32 ∷ actions_text rest
 
 -- the rule's name, a blank, and the actions
 abbrev pub written : Rule → List Action → List ℕ
-written rule actions = name rule ++ 32 ∷ actions_text actions
+written rule actions = rule_name rule ++ 32 ∷ actions_text actions
 
 -- a class fits two hexadecimal digits, and a number 32 bits
 abbrev pub Fits : Action → Type 0

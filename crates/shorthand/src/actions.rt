@@ -1,17 +1,17 @@
 //! Actions in a text.
-ghost use Rattle.std.specs.Prelude.{◌≡◌, ℕ, ◌+◌, ◌^◌, ◌<◌, Bool, length, slice_index};
-ghost use Rattle.shorthand.specs.declared.words.Action.TheVariants.{Access, Ask as Asking};
-ghost use Rattle.shorthand.specs.Numbers.{number_at, Behind};
-ghost use Rattle.shorthand.specs.Actions.{hex, acting, is_class, class_at, action_at, Digit};
+ghost use Rattle.std.specs.Prelude.{◌≡◌, ◌<◌, length};
+ghost use Rattle.shorthand.specs.declared.words.Action.TheVariants.{Access};
+ghost use Rattle.shorthand.specs.Numbers.{number_at};
+ghost use Rattle.shorthand.specs.Actions.{hex, acting, is_class, class_at, action_at};
+ghost use Rattle.shorthand.specs.Reader.{left, first, rest, placed, Behind};
 
-use crate::numbers::number_at;
+use crate::reader::Reader;
 use crate::words::{Action, Misread, Reason};
 use rules::{ADD, READ, WRITE};
 
 /// The value of a hexadecimal digit.
 fn hex_value(c: u8) -> Option<u32>
-    ensures value { result ≡ hex c }
-    ensures digit { Digit c result }
+    ensures { result ≡ hex c }
 {
     match c {
         b'0'..=b'9' => Some((c - b'0') as u32),
@@ -20,74 +20,61 @@ fn hex_value(c: u8) -> Option<u32>
     }
 }
 
-/// The character at a place, 0 behind the last.
-fn character(text: &[u8], place: usize) -> u8
-    ensures value { result ≡ slice_index text.now place }
-    ensures within { 0 < result → place < length text.now }
-{
-    if place < text.len() { text[place] } else { 0 }
-}
-
-fn access_at(class: u32, at: usize, text: &[u8]) -> Result<(Action, usize), Misread>
-    requires { at + length text.now < 2 ^ 63 }
-    ensures answer { result ≡ acting (Access «class») (number_at at text.now) }
-    ensures within { Behind at (length text.now) result }
-{
-    let (record, end) = number_at(at, text)?;
-    Ok((Action::Access(class, record), end))
-}
-
-fn question_at(at: usize, text: &[u8]) -> Result<(Action, usize), Misread>
-    requires { at + length text.now < 2 ^ 63 }
-    ensures answer { result ≡ acting Asking (number_at at text.now) }
-    ensures within { Behind at (length text.now) result }
-{
-    let (task, end) = number_at(at, text)?;
-    Ok((Action::Ask(task), end))
-}
-
-/// Whether the rest of a class follows its first digit.
-fn is_class(rest: &[u8]) -> bool
-    ensures { result ≡ is_class rest.now }
-{
-    match hex_value(character(rest, 0)) {
-        Some(_) => character(rest, 1) == b'@',
-        None => false,
+impl Reader<'_> {
+    /// Whether the rest of a class comes next, behind its first digit.
+    fn is_class(&self) -> bool
+        ensures { result ≡ is_class (left self.now) }
+    {
+        let mut rest = *self;
+        rest.next_as(hex_value).is_some() && rest.skip(b"@")
     }
-}
 
-/// The access of a class whose first digit stands at the place `at`.
-fn class_at(at: usize, first: u8, rest: &[u8]) -> Result<(Action, usize), Misread>
-    requires { at + length rest.now + 1 < 2 ^ 63 }
-    ensures answer { result ≡ class_at at «first» rest.now }
-    ensures within { Behind at (length rest.now + 1) result }
-{
-    let Some(high) = hex_value(first) else {
-        return Err(Misread::at(at, Reason::NoAction));
-    };
-    let Some(low) = hex_value(character(rest, 0)) else {
-        return Err(Misread::at(at + 1, Reason::NoDigit));
-    };
-    if character(rest, 1) != b'@' {
-        return Err(Misread::at(at + 2, Reason::NoAt));
+    /// Reads the number of a record that an access of a class is to.
+    fn access(&mut self, class: u32) -> Result<Action, Misread>
+        ensures answer { placed result self.new.at ≡ acting (Access «class») (number_at self.old.at (left self.old)) }
+        ensures behind { Behind self.old self.new result }
+    {
+        self.number().map(|record| Action::Access(class, record))
     }
-    access_at(16 * high + low, at + 3, &rest[2..])
-}
 
-/// The action whose first character stands at the place `at`, and the place behind the action.
-pub(crate) fn action_at(at: usize, first: u8, rest: &[u8]) -> Result<(Action, usize), Misread>
-    requires { at + length rest.now + 1 < 2 ^ 63 }
-    ensures answer { result ≡ action_at at «first» rest.now }
-    ensures within { Behind at (length rest.now + 1) result }
-{
-    match first {
-        b'T' => Ok((Action::OpenTask, at + 1)),
-        b'F' if !is_class(rest) => Ok((Action::OpenFinish, at + 1)),
-        b')' => Ok((Action::Close, at + 1)),
-        b'r' => access_at(READ, at + 1, rest),
-        b'w' => access_at(WRITE, at + 1, rest),
-        b'a' => access_at(ADD, at + 1, rest),
-        b'?' => question_at(at + 1, rest),
-        _ => class_at(at, first, rest),
+    /// Reads an access by its class.
+    fn class_access(&mut self) -> Result<Action, Misread>
+        ensures answer { placed result self.new.at ≡ class_at self.old.at (first self.old) (rest self.old) }
+        ensures behind { Behind self.old self.new result }
+    {
+        let Some(high) = self.next_as(hex_value) else {
+            return Err(self.misread(Reason::NoAction));
+        };
+        let Some(low) = self.next_as(hex_value) else {
+            return Err(self.misread(Reason::NoDigit));
+        };
+        if !self.skip(b"@") {
+            return Err(self.misread(Reason::NoAt));
+        }
+        self.access(16 * high + low)
+    }
+
+    /// Reads an action.
+    pub(crate) fn action(&mut self) -> Result<Action, Misread>
+        requires { self.old.at < length self.old.text.now }
+        ensures answer { placed result self.new.at ≡ action_at self.old.at (first self.old) (rest self.old) }
+        ensures behind { Behind self.old self.new result }
+    {
+        let start = *self;
+        let first = self.text[self.at];
+        self.at += 1;
+        match first {
+            b'T' => Ok(Action::OpenTask),
+            b'F' if !self.is_class() => Ok(Action::OpenFinish),
+            b')' => Ok(Action::Close),
+            b'r' => self.access(READ),
+            b'w' => self.access(WRITE),
+            b'a' => self.access(ADD),
+            b'?' => self.number().map(Action::Ask),
+            _ => {
+                *self = start;
+                self.class_access()
+            }
+        }
     }
 }

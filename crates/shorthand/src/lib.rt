@@ -11,6 +11,7 @@
 
 mod actions;
 mod numbers;
+mod reader;
 mod reading;
 #[cfg(test)]
 mod tests;

@@ -1,27 +1,37 @@
 //! Numbers in a text.
-ghost use Rattle.std.specs.Prelude.{◌≡◌, ℕ, ◌+◌, ◌^◌, ◌<◌, length};
-ghost use Rattle.shorthand.specs.Numbers.{number_at, Behind};
+ghost use Rattle.std.specs.Prelude.{◌≡◌, ◌-◌, if◌then◌else◌};
+ghost use Rattle.std.specs.Char.{is_ascii_digit};
+ghost use Rattle.shorthand.specs.Numbers.{number_at};
+ghost use Rattle.shorthand.specs.Reader.{left, placed, Behind};
 
+use crate::reader::Reader;
 use crate::words::{Misread, Reason};
 
-/// The number at the front of a text, which begins at the place `at`, and the place behind the number.
-pub(crate) fn number_at(at: usize, text: &[u8]) -> Result<(u32, usize), Misread>
-    requires { at + length text.now < 2 ^ 63 }
-    ensures answer { result ≡ number_at at text.now }
-    ensures within { Behind at (length text.now) result }
+/// The value of a decimal digit.
+fn decimal_value(c: u8) -> Option<u32>
+    ensures { result ≡ (if is_ascii_digit c then Some (c - 48) else None) }
 {
-    let mut number = 0;
-    let mut count = 0;
-    while count < text.len() && text[count].is_ascii_digit() {
-        let digit = (text[count] - b'0') as u32;
-        if number > (u32::MAX - digit) / 10 {
-            return Err(Misread::at(at, Reason::TooLarge));
+    (c as char).to_digit(10)
+}
+
+impl Reader<'_> {
+    /// Reads a number.
+    #[tactic(auto, using(crate::proofs::Digits::steps))]
+    pub(crate) fn number(&mut self) -> Result<u32, Misread>
+        ensures answer { placed result self.new.at ≡ number_at self.old.at (left self.old) }
+        ensures behind { Behind self.old self.new result }
+    {
+        let start = *self;
+        let mut number = 0;
+        while let Some(digit) = self.next_as(decimal_value) {
+            if number > (u32::MAX - digit) / 10 {
+                return Err(start.misread(Reason::TooLarge));
+            }
+            number = 10 * number + digit;
         }
-        number = 10 * number + digit;
-        count += 1;
+        if self.at == start.at {
+            return Err(start.misread(Reason::NoNumber));
+        }
+        Ok(number)
     }
-    if count == 0 {
-        return Err(Misread::at(at, Reason::NoNumber));
-    }
-    Ok((number, at + count))
 }

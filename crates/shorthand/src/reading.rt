@@ -1,73 +1,76 @@
 //! Whole plans.
-ghost use Rattle.std.specs.Prelude.{◌≡◌, ℕ, ◌+◌, ◌^◌, ◌<◌, ◌≤◌, true, length, drop};
-ghost use Rattle.shorthand.specs.Reading.{is_blank, begins, named as named_rule, heading as headed, said, counted, put_over, read_answer, read_into};
+ghost use Rattle.std.specs.Prelude.{◌≡◌, ◌≤◌, ◌+◌, length, take_while};
+ghost use Rattle.std.specs.List.{prefix_len};
+ghost use Rattle.shorthand.specs.Reader.{left, StandsAt};
+ghost use Rattle.shorthand.specs.Reading.{is_blank, named, heading, said, counted, put_over, read_answer, read_into};
 ghost use Rattle.shorthand.specs.Written.{ReadBack};
 
-use crate::actions::action_at;
+use crate::reader::Reader;
 use crate::words::{Action, Fault, Misread, Plan};
 use rules::{Depot, Field, Plain, Rule};
 
+/// Whether the character is a blank. A form feed, which `is_ascii_whitespace` takes too, is none.
 fn is_blank(c: u8) -> bool
     ensures { result ≡ is_blank c }
 {
     matches!(c, b' ' | b'\t' | b'\r' | b'\n')
 }
 
-fn begins_with(text: &[u8], word: &[u8]) -> bool
-    ensures same { result ≡ begins word.now text.now }
-    ensures long { result ≡ true → length word.now ≤ length text.now }
+/// How many blanks a text begins with.
+fn blanks(text: &[u8]) -> usize
+    ensures { result ≡ length (take_while is_blank text.now) }
 {
-    text.starts_with(word)
+    text.iter().take_while(|c| is_blank(**c)).count()
 }
 
-/// The rule that a text names in front, and the place behind the name.
-fn named(at: usize, text: &[u8]) -> (Rule, usize)
-    requires { at + length text.now < 2 ^ 63 }
-    ensures rule { result ≡ named_rule at text.now }
-    ensures within { (at ≤ result.1) × (result.1 ≤ at + length text.now) }
-{
-    if begins_with(text, b"depot") {
-        (Rule::Depot(Depot {}), at + 5)
-    } else if begins_with(text, b"field") {
-        (Rule::Field(Field {}), at + 5)
-    } else if begins_with(text, b"plain") {
-        (Rule::Plain(Plain {}), at + 5)
-    } else {
-        (Rule::Plain(Plain {}), at)
+impl Reader<'_> {
+    /// Reads over any blanks.
+    fn skip_blanks(&mut self)
+        ensures { StandsAt self.old self.new (self.old.at + prefix_len is_blank (left self.old)) }
+    {
+        self.at += blanks(self.left());
     }
-}
 
-/// The rule that a text names in front, behind any blanks, and the place behind the name.
-fn heading(text: &[u8]) -> (Rule, usize)
-    ensures rule { result ≡ headed 0 text.now }
-    ensures within { result.1 ≤ length text.now }
-{
-    let mut at = 0;
-    while at < text.len() && is_blank(text[at]) {
-        at += 1;
-    }
-    named(at, &text[at..])
-}
-
-/// Reads the actions from the place `from` on, puts them into the places lent, and counts them.
-fn read_actions(text: &[u8], from: usize, actions: &mut [Action]) -> Result<usize, Misread>
-    requires { (length text.now ≤ length actions.old) × (from ≤ length text.now) }
-    ensures answer { result ≡ counted (said from from (drop from text.now)) }
-    ensures places { actions.new ≡ put_over (said from from (drop from text.now)).actions actions.old }
-{
-    let mut at = from;
-    let mut count = 0;
-    while at < text.len() {
-        if is_blank(text[at]) {
-            at += 1;
+    /// Reads the name of a rule; the plain rule where none is named.
+    fn named(&mut self) -> Rule
+        ensures rule { (result, self.new.at) ≡ named self.old.at (left self.old) }
+        ensures text { self.new.text.now ≡ self.old.text.now }
+    {
+        if self.skip(b"depot") {
+            Rule::Depot(Depot {})
+        } else if self.skip(b"field") {
+            Rule::Field(Field {})
         } else {
-            let (action, end) = action_at(at, text[at], &text[at + 1..])?;
-            actions[count] = action;
-            count += 1;
-            at = end;
+            self.skip(b"plain");
+            Rule::Plain(Plain {})
         }
     }
-    Ok(count)
+
+    /// The same, behind any blanks.
+    #[tactic(auto, using(crate::proofs::Readers::heading_behind))]
+    fn rule(&mut self) -> Rule
+        ensures rule { (result, self.new.at) ≡ heading self.old.at (left self.old) }
+        ensures text { self.new.text.now ≡ self.old.text.now }
+    {
+        self.skip_blanks();
+        self.named()
+    }
+
+    /// Reads the actions up to the end, puts them into the places lent, and counts them.
+    fn actions(&mut self, places: &mut [Action]) -> Result<usize, Misread>
+        requires { length self.old.text.now ≤ length places.old }
+        ensures answer { result ≡ counted (said self.old.at self.old.at (left self.old)) }
+        ensures places { places.new ≡ put_over (said self.old.at self.old.at (left self.old)).actions places.old }
+    {
+        for (count, place) in places.iter_mut().enumerate() {
+            self.skip_blanks();
+            if self.left().is_empty() {
+                return Ok(count);
+            }
+            *place = self.action()?;
+        }
+        Ok(places.len())
+    }
 }
 
 /// Reads a plan: the rule, and the actions, which are put into the places lent. There has to be a place for each character of the text.
@@ -80,9 +83,8 @@ pub fn read(text: &[u8], actions: &mut [Action]) -> Result<Plan, Fault>
     if actions.len() < text.len() {
         return Err(Fault::NoRoom);
     }
-    let (rule, from) = heading(text);
-    match read_actions(text, from, actions) {
-        Ok(count) => Ok(Plan { rule, count }),
-        Err(misread) => Err(Fault::Misread(misread)),
-    }
+    let mut reader = Reader::new(text);
+    let rule = reader.rule();
+    let count = reader.actions(actions)?;
+    Ok(Plan { rule, count })
 }

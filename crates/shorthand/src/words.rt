@@ -1,11 +1,13 @@
 //! What a plan in shorthand says, and why a text says none.
-ghost use Rattle.std.specs.Prelude.{◌≡◌, ◌^◌, ◌<◌};
-ghost use Rattle.shorthand.specs.Words.{wrong};
+ghost use Rattle.std.specs.Prelude.{◌≡◌, Some};
+ghost use Rattle.shorthand.specs.declared.words.Fault.TheVariants.{Misread as Wrong};
+ghost use Rattle.shorthand.specs.Words.{expected};
 
 use rules::Rule;
+use std::fmt;
 
 /// One action of a plan.
-#[derive(Clone, Copy, PartialEq, Debug)]
+#[derive(Clone, Copy, Debug, PartialEq, Eq)]
 pub enum Action {
     OpenTask,
     OpenFinish,
@@ -18,14 +20,15 @@ pub enum Action {
 }
 
 /// What was read: the rule, and how many actions.
-#[derive(Clone, Copy)]
+// A count, no slice: were a part of the places handed back, what they hold would have to be proved by hand, here and at each call.
+#[derive(Clone, Copy, Debug, PartialEq, Eq)]
 pub struct Plan {
     pub rule: Rule,
     pub count: usize,
 }
 
 /// What is wrong at a character.
-#[derive(Clone, Copy, PartialEq, Debug)]
+#[derive(Clone, Copy, Debug, PartialEq, Eq)]
 pub enum Reason {
     /// No action begins so.
     NoAction,
@@ -40,29 +43,40 @@ pub enum Reason {
 }
 
 /// The first character that does not belong there, counted from 1; the one behind the last where the text is too short.
-#[derive(Clone, Copy, PartialEq, Debug)]
+#[derive(Clone, Copy, Debug, PartialEq, Eq)]
 pub struct Misread {
     pub position: usize,
     pub reason: Reason,
 }
 
 /// Why a text is refused.
-#[derive(Clone, Copy, PartialEq, Debug)]
+#[derive(Clone, Copy, Debug, PartialEq, Eq)]
 pub enum Fault {
     /// There are fewer places for actions than characters in the text.
     NoRoom,
     Misread(Misread),
 }
 
-impl Misread {
-    /// What is wrong at the place `at`, counted from 0.
-    pub(crate) fn at(at: usize, reason: Reason) -> Misread
-        requires { at < 2 ^ 63 }
-        ensures { result ≡ wrong at reason }
-    {
-        Misread {
-            position: at + 1,
-            reason,
-        }
+/// What is expected in place of what is wrong.
+impl fmt::Display for Reason {
+    ghost output = { λ reason. Some (expected reason) };
+
+    fn fmt<W: fmt::Write>(&self, f: &mut fmt::Formatter<W>) -> fmt::Result {
+        f.write_str(match self {
+            Reason::NoAction =>
+                "expected an action: T, F, ), r, w, a or ? or a class of two hexadecimal digits",
+            Reason::NoNumber => "expected a number",
+            Reason::TooLarge => "expected a number of at most 4294967295",
+            Reason::NoDigit => "expected the second hexadecimal digit of a class, 0 to 9 or A to F",
+            Reason::NoAt => "expected @ behind a class",
+        })
+    }
+}
+
+impl From<Misread> for Fault {
+    ghost from_gives = { λ misread fault. fault ≡ Wrong misread };
+
+    fn from(misread: Misread) -> Fault {
+        Fault::Misread(misread)
     }
 }

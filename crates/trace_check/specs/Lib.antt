@@ -1,3 +1,4 @@
+pub mod View
 pub mod Numbers
 pub mod Calls
 pub mod Puts

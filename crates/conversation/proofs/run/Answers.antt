@@ -1,13 +1,13 @@
 use Rattle.std.proofs.Common.{◌≡◌, ℕ, ◌<◌, List, [], length, take, refl, ◌∙◌, subst, arith}
 use Rattle.std.proofs.lemmas.List.{take_all}
 use Rattle.conversation.specs.Exchanges.{Exchange}
-use Rattle.conversation.specs.Replies.{Setting, events}
+use Rattle.conversation.specs.Replies.{Setting, reply_to, after, events}
 use Rattle.conversation.specs.Theorem.{RepliesRight}
 use Rattle.trace_check.specs.Puts.{Store, store}
 use Rattle.conversation.specs.State.{State}
 use Rattle.conversation.specs.Conversation.{setting}
-use Rattle.orderings.proofs.Inquiring.{same_calls}
-use Rattle.conversation.proofs.Turns.{InTurn, one_turn, store_eq, turn_right}
+use Rattle.orderings.proofs.Turns.{same_calls, turn_right}
+use Rattle.conversation.proofs.Turns.{InTurn, one_turn, store_eq}
 use Rattle.conversation.proofs.run.Goals as goal
 
 pub loop-exchange-init : goal.loop-exchange-init
@@ -28,7 +28,7 @@ loop-exchange-preserved g c =
     )
 
 finished : (s : Setting) (xs : List Exchange) (i : ℕ) (τ : Store) → take i xs ≡ xs → InTurn s [] (take i xs) × State s (events (take i xs)) τ → RepliesRight s xs × State s (events xs) τ
-finished s xs i τ e v = let w = subst (λ (ys : List Exchange). InTurn s [] ys × State s (events ys) τ) e v in (turn_right s xs w.0, w.1)
+finished s xs i τ e v = let w = subst (λ (ys : List Exchange). InTurn s [] ys × State s (events ys) τ) e v in (turn_right (reply_to s) (λ h x. after x h) [] xs w.0, w.1)
 
 pub returns : goal.returns
 returns g c = record {

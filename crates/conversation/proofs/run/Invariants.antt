@@ -2,7 +2,7 @@ use Rattle.std.proofs.Common.{◌≡◌, [], take}
 use Rattle.conversation.specs.Replies.{events}
 use Rattle.trace_check.specs.Puts.{store}
 use Rattle.conversation.specs.State.{State}
-use Rattle.orderings.specs.Inquiries.{calls_of}
+use Rattle.orderings.specs.Exchanges.{calls_of}
 use Rattle.conversation.specs.Conversation.{setting}
 use Rattle.conversation.proofs.Turns.{InTurn}
 use Rattle.conversation.proofs.run.Given as goal

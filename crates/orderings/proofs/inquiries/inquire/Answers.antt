@@ -2,7 +2,8 @@ use Rattle.std.proofs.Common.{◌≡◌, ℕ, ◌<◌, List, length, take, ◌�
 use Rattle.std.proofs.lemmas.List.{take_all}
 use Rattle.orderings.specs.Meaning.{Meaning, WellFormed}
 use Rattle.orderings.specs.Inquiries.{Inquiry, after_requests, Inquired}
-use Rattle.orderings.proofs.Inquiring.{InTurn, one_turn, same_calls, inquired}
+use Rattle.orderings.proofs.Inquiring.{InTurn, one_turn, inquired}
+use Rattle.orderings.proofs.Turns.{same_calls}
 use Rattle.orderings.proofs.inquiries.inquire.Goals as goal
 
 pub loop-inquiry-preserved : goal.loop-inquiry-preserved

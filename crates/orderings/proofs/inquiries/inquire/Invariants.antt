@@ -1,5 +1,6 @@
 use Rattle.std.proofs.Common.{◌≡◌, take}
-use Rattle.orderings.specs.Inquiries.{calls_of, after_requests}
+use Rattle.orderings.specs.Inquiries.{after_requests}
+use Rattle.orderings.specs.Exchanges.{calls_of}
 use Rattle.orderings.proofs.Inquiring.{InTurn}
 use Rattle.orderings.proofs.inquiries.inquire.Given as goal
 

@@ -1,35 +1,27 @@
-use Rattle.std.proofs.Common.{◌≡◌, true, ltb, length, Err, Result, sym, ap, ◌∙◌, rules}
-use Rattle.shorthand.specs.declared.words.Fault.{Fault}
-use Rattle.shorthand.specs.declared.words.Fault.TheVariants.{NoRoom}
-use Rattle.shorthand.specs.declared.words.Plan.{Plan}
+use Rattle.std.proofs.Common.{◌≡◌, length, Err, ap, sym, ◌∙◌}
+use Rattle.std.proofs.lemmas.Result.{err_from_is_err_and}
 use Rattle.shorthand.specs.Reading.{told, read_answer, read_into}
-use Rattle.shorthand.proofs.Places.{told_answer, told_places}
+use Rattle.shorthand.proofs.Plans.{all_read}
 use Rattle.shorthand.proofs.Back.{read_back}
 use Rattle.shorthand.proofs.reading.read.Goals as goal
+use Rattle.shorthand.proofs.reading.read.Goals.{After-actions}
 
-pub returns-then-actions-text : goal.returns-then-actions-text
-returns-then-actions-text c =
-    let l = c.args.text.now in
-    let old = c.args.actions.now in
-    let short : ltb (length old) (length l) ≡ true = search rules in
-    let a : ◌≡◌ {A = Result Plan Fault} (Err NoRoom) (read_answer (length old) l) = rw short in
-    let b : old ≡ read_into old l = rw short in
-    record { answer = a; places = b; back = read_back l old old (Err NoRoom) a b }
+-- the name of the rule is read, and from there on the actions
+all : (c : After-actions) → (told c.rule-rule.result c.actions.result ≡ read_answer (length c.args.actions.now) c.args.text.now) × (c.actions.new.places ≡ read_into c.args.actions.now c.args.text.now)
+all c =
+    let named = rw (c.new-reader.ensures.front, c.new-reader.ensures.text) at c.rule-rule.ensures.rule in
+    let read = rw (c.rule-rule.ensures.text, c.new-reader.ensures.text) at c.actions.ensures in
+    all_read _ _ _ (c.rule-rule.result, c.rule-rule.new.self.at) _ c.if-actions-text.false named read.answer read.places
 
-pub returns-in-Ok : goal.returns-in-Ok
-returns-in-Ok c =
-    let l = c.args.text.now in
-    let old = c.args.actions.now in
-    let p = c.heading-rule.result in
-    let a = ap (told p.0) (sym c.in-Ok.is ∙ c.read_actions.ensures.answer) ∙ told_answer l old c.if-actions-text.false p c.heading-rule.ensures.rule in
-    let b = c.read_actions.ensures.places ∙ told_places l old c.if-actions-text.false p c.heading-rule.ensures.rule in
-    record { answer = a; places = b; back = read_back l old c.read_actions.new.actions _ a b }
+pub returns-in_err-count : goal.returns-in_err-count
+returns-in_err-count c =
+    let both = all (goal.at.returns-in_err-count c).After-actions in
+    let out = err_from_is_err_and c.from_residual.result c.from_residual.ensures.1 in
+    let answer = out.1 ∙ ap Err out.2 ∙ ap (told c.rule-rule.result) (sym c.in_err-count.was) ∙ both.0 in
+    record { answer = answer; places = both.1; back = read_back _ _ _ _ answer both.1 }
 
-pub returns-in-Err : goal.returns-in-Err
-returns-in-Err c =
-    let l = c.args.text.now in
-    let old = c.args.actions.now in
-    let p = c.heading-rule.result in
-    let a = ap (told p.0) (sym c.in-Err.is ∙ c.read_actions.ensures.answer) ∙ told_answer l old c.if-actions-text.false p c.heading-rule.ensures.rule in
-    let b = c.read_actions.ensures.places ∙ told_places l old c.if-actions-text.false p c.heading-rule.ensures.rule in
-    record { answer = a; places = b; back = read_back l old c.read_actions.new.actions _ a b }
+pub returns : goal.returns
+returns c =
+    let both = all (goal.at.returns c).After-actions in
+    let answer = ap (told c.rule-rule.result) (sym c.in_ok-count.was) ∙ both.0 in
+    record { answer = answer; places = both.1; back = read_back _ _ _ _ answer both.1 }
