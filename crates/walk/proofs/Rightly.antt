@@ -7,7 +7,7 @@ use Rattle.graph.specs.History.{History, scopes, innermost_task}
 use Rattle.orderings.specs.declared.questions.Question.TheVariants.{InnermostTask}
 use Rattle.trace_check.specs.declared.words.Call.TheVariants.{Ask}
 use Rattle.conversation.specs.declared.words.Ending.{Ending}
-use Rattle.orderings.specs.Inquiries.{calls_of}
+use Rattle.orderings.specs.Exchanges.{calls_of}
 use Rattle.conversation.specs.Exchanges.{Exchange}
 use Rattle.conversation.specs.Replies.{Setting, reply_to, after, after_all, events}
 use Rattle.conversation.specs.Theorem.{RepliesRight}

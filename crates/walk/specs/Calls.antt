@@ -4,7 +4,7 @@ use Rattle.rules.specs.declared.Rule.{Rule}
 use Rattle.rules.specs.Any.{known_under, clash_under}
 use Rattle.orderings.specs.declared.questions.Question.TheVariants.{WordOf, InnermostTask}
 use Rattle.orderings.specs.declared.words.Kind.TheVariants.{Task, Finish}
-use Rattle.orderings.specs.Inquiries.{calls_of}
+use Rattle.orderings.specs.Exchanges.{calls_of}
 use Rattle.trace_check.specs.declared.words.Call.{Call}
 use Rattle.trace_check.specs.declared.words.Call.TheVariants.{Open, Close, Access, Ask}
 use Rattle.conversation.specs.declared.words.Ending.{Ending}

@@ -1,15 +1,15 @@
 //! The calls that the actions of a plan are.
 ghost use Rattle.std.specs.Prelude.{◌≡◌, IfOk};
-ghost use Rattle.orderings.specs.Inquiries.{calls_of};
+ghost use Rattle.orderings.specs.Exchanges.{calls_of};
 ghost use Rattle.walk.specs.Calls.{call_of, calls_for, Checked};
 
-use conversation::{Ending, Exchange, converse};
-use orderings::{Bags, Entry, Kind, Question, Told};
+use conversation::{Ending, Exchange, converse, to_put};
+use orderings::{Bags, Entry, Kind, Question};
 use rows::Row;
 use rules::Rule;
 use shorthand::Action;
 use std::alloc::{AllocError, Global};
-use trace_check::{Call, Reply};
+use trace_check::Call;
 
 /// How many scope numbers there are beyond main.
 pub(crate) const NUMBERS: usize = 1_024;
@@ -28,16 +28,6 @@ fn call_of(action: Action) -> Call
         Action::Close => Call::Close,
         Action::Access(class, record) => Call::Access(class, record),
         Action::Ask(task) => Call::Ask(Question::WordOf(task)),
-    }
-}
-
-/// A call to put, with a place for the reply.
-fn to_put(call: Call) -> Exchange
-    ensures { result.call ≡ call }
-{
-    Exchange {
-        call,
-        reply: Ok(Reply::Told(Told::Number(0))),
     }
 }
 

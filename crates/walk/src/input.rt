@@ -83,17 +83,6 @@ pub(crate) fn plan_of(heap: Global, text: &[u8]) -> Result<Script, Stop>
     })
 }
 
-fn expected(reason: Reason) -> &'static str {
-    match reason {
-        Reason::NoAction =>
-            "expected an action: T, F, ), r, w, a or ? or a class of two hexadecimal digits",
-        Reason::NoNumber => "expected a number",
-        Reason::TooLarge => "expected a number of at most 4294967295",
-        Reason::NoDigit => "expected the second hexadecimal digit of a class, 0 to 9 or A to F",
-        Reason::NoAt => "expected @ behind a class",
-    }
-}
-
 impl fmt::Display for Stop {
     fn fmt<W: fmt::Write>(&self, f: &mut fmt::Formatter<W>) -> fmt::Result {
         match self {
@@ -104,7 +93,6 @@ impl fmt::Display for Stop {
                 byte,
                 reason,
             } => {
-                let expected = expected(*reason);
                 write!(f, "position {position}, ")?;
                 match byte {
                     None => write!(f, "the end of the plan")?,
@@ -115,7 +103,7 @@ impl fmt::Display for Stop {
                     )?,
                     Some(byte) => write!(f, "byte {byte}")?,
                 }
-                write!(f, ": {expected}")
+                write!(f, ": {reason}")
             }
         }
     }
