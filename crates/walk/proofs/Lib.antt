@@ -1,3 +1,3 @@
 pub mod Pairing
 pub mod Rightly
-pub mod Plain
+pub mod Plainly

@@ -18,7 +18,7 @@ pub(crate) const RECORDS: usize = 256;
 
 const EVENT_LIMIT: u32 = 1_000_000;
 
-// No `From`: neither type is this crate's.
+// No `From`: neither of the types is of this crate.
 fn call_of(action: Action) -> Call
     ensures { result ≡ call_of action }
 {

@@ -71,6 +71,7 @@ pub(crate) fn plan_of(heap: Global, text: &[u8]) -> Result<Script, Stop>
     ensures { IfOk result (λ s. Says text.now s.rule s.actions.items) }
 {
     let mut actions = vec![in heap; Action::Close; text.len()]?;
+    // A match, no `map_err`: its closure would not know that there is room.
     let plan = match read(text, &mut actions) {
         Ok(plan) => plan,
         Err(Fault::Misread(misread)) => return Err(Stop::misread(text, misread)),

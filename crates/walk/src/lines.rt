@@ -1,13 +1,13 @@
 //! The lines that a walk prints.
-ghost use Rattle.std.specs.Prelude.{IsTrue};
-ghost use Rattle.walk.specs.Lines.{is_plain};
+ghost use Rattle.walk.specs.Lines.{Plainly};
 
 use crate::calls::{NUMBERS, RECORDS};
 use crate::steps::{Step, Walk};
 use crate::words::{Deed, Named, Scope, plural};
 use conversation::Ending;
-use orderings::{Told, Word};
+use orderings::{Kind, Told, Word};
 use rules::Rule;
+use shorthand::Action;
 use std::{fmt, io};
 use trace_check::{Refusal, Reply};
 
@@ -18,7 +18,7 @@ struct Line<'a> {
     /// The events so far are given by their numbers.
     events: &'a [Step],
     step: Step,
-    ghost plain: { IsTrue (is_plain step.reply) },
+    ghost plainly: { Plainly step.reply },
 }
 
 impl Line<'_> {
@@ -30,26 +30,36 @@ impl Line<'_> {
         }
     }
 
-    fn opened<W: fmt::Write>(&self, f: &mut fmt::Formatter<W>, number: u32) -> fmt::Result {
+    fn fmt_opened<W: fmt::Write>(&self, f: &mut fmt::Formatter<W>, number: u32) -> fmt::Result {
         let event = self.events.len();
         let who = Named(self.step.task);
-        let scope = Scope::opened_by(self.step.action, number);
+        let kind = match self.step.action {
+            Action::OpenTask => Kind::Task,
+            _ => Kind::Finish,
+        };
+        let scope = Scope { kind, number };
         write!(f, "event {event}: {who} opens {scope}")
     }
 
-    fn closed<W: fmt::Write>(&self, f: &mut fmt::Formatter<W>, number: u32) -> fmt::Result {
+    /// The scope closed is the task that the close belongs to, or else a finish.
+    fn fmt_closed<W: fmt::Write>(&self, f: &mut fmt::Formatter<W>, number: u32) -> fmt::Result {
         let event = self.events.len();
-        let scope = Scope::closed_in(self.step.task, number);
+        let kind = if number == self.step.task {
+            Kind::Task
+        } else {
+            Kind::Finish
+        };
+        let scope = Scope { kind, number };
         write!(f, "event {event}: {scope} ends")
     }
 
-    fn clear<W: fmt::Write>(&self, f: &mut fmt::Formatter<W>) -> fmt::Result {
+    fn fmt_clear<W: fmt::Write>(&self, f: &mut fmt::Formatter<W>) -> fmt::Result {
         let event = self.events.len();
         let deed = self.deed(self.step);
         write!(f, "event {event}: {deed}: clear")
     }
 
-    fn clash<W: fmt::Write>(&self, f: &mut fmt::Formatter<W>, earlier: u32) -> fmt::Result {
+    fn fmt_clash<W: fmt::Write>(&self, f: &mut fmt::Formatter<W>, earlier: u32) -> fmt::Result {
         let event = self.events.len();
         let deed = self.deed(self.step);
         write!(f, "event {event}: {deed}: CLASH with event {earlier}")?;
@@ -60,7 +70,7 @@ impl Line<'_> {
         write!(f, ": the two can come in either order")
     }
 
-    fn told<W: fmt::Write>(&self, f: &mut fmt::Formatter<W>, word: Word) -> fmt::Result {
+    fn fmt_told<W: fmt::Write>(&self, f: &mut fmt::Formatter<W>, word: Word) -> fmt::Result {
         let deed = self.deed(self.step);
         let who = Named(self.step.task);
         match word {
@@ -75,7 +85,11 @@ impl Line<'_> {
         }
     }
 
-    fn refused<W: fmt::Write>(&self, f: &mut fmt::Formatter<W>, refusal: Refusal) -> fmt::Result {
+    fn fmt_refused<W: fmt::Write>(
+        &self,
+        f: &mut fmt::Formatter<W>,
+        refusal: Refusal,
+    ) -> fmt::Result {
         let deed = self.deed(self.step);
         let code = refusal.code();
         let number = code.number;
@@ -91,13 +105,13 @@ impl Line<'_> {
 impl fmt::Display for Line<'_> {
     fn fmt<W: fmt::Write>(&self, f: &mut fmt::Formatter<W>) -> fmt::Result {
         match self.step.reply {
-            Ok(Reply::Opened(scope)) => self.opened(f, scope),
-            Ok(Reply::Closed(scope)) => self.closed(f, scope),
-            Ok(Reply::Found(None)) => self.clear(f),
-            Ok(Reply::Found(Some((earlier, _)))) => self.clash(f, earlier),
-            Ok(Reply::Told(Told::Word(word))) => self.told(f, word),
+            Ok(Reply::Opened(scope)) => self.fmt_opened(f, scope),
+            Ok(Reply::Closed(scope)) => self.fmt_closed(f, scope),
+            Ok(Reply::Found(None)) => self.fmt_clear(f),
+            Ok(Reply::Found(Some((earlier, _)))) => self.fmt_clash(f, earlier),
+            Ok(Reply::Told(Told::Word(word))) => self.fmt_told(f, word),
             Ok(Reply::Told(_)) => unreachable(),
-            Err(refusal) => self.refused(f, refusal),
+            Err(refusal) => self.fmt_refused(f, refusal),
         }
     }
 }

@@ -1,8 +1,7 @@
 //! The steps of a walk.
-ghost use Rattle.std.specs.Prelude.{◌≡◌, [], ◌∷◌, IfOk, IsTrue, All};
-ghost use Rattle.walk.specs.declared.steps.Step.{Step as StepOf};
+ghost use Rattle.std.specs.Prelude.{◌≡◌, [], ◌∷◌, IfOk};
 ghost use Rattle.walk.specs.Calls.{walk_setting};
-ghost use Rattle.walk.specs.Lines.{is_plain};
+ghost use Rattle.walk.specs.Lines.{AllPlainly};
 ghost use Rattle.walk.specs.Steps.{number_told, paired};
 ghost use Rattle.walk.specs.Walk.{is_event, Walked};
 
@@ -74,7 +73,7 @@ pub(crate) fn steps_of(
 pub(crate) struct Walk {
     pub(crate) steps: Vec<Step>,
     pub(crate) ending: Ending,
-    ghost plain: { All (λ (step : StepOf). IsTrue (is_plain step.reply)) steps.items },
+    ghost plainly: { AllPlainly steps.items },
 }
 
 /// Puts the actions to a check, one after the other.

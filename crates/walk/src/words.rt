@@ -1,4 +1,7 @@
-//! The words for tasks and actions.
+//! The words for tasks, scopes and actions.
+ghost use Rattle.std.specs.Prelude.{Some};
+ghost use Rattle.walk.specs.Words.{task_name, scope_name};
+
 use orderings::Kind;
 use rules::Rule;
 use shorthand::Action;
@@ -9,6 +12,8 @@ use std::fmt;
 pub(crate) struct Named(pub(crate) u32);
 
 impl fmt::Display for Named {
+    ghost output = { λ named. Some (task_name named.0) };
+
     fn fmt<W: fmt::Write>(&self, f: &mut fmt::Formatter<W>) -> fmt::Result {
         let number = self.0;
         if number == 0 {
@@ -22,32 +27,13 @@ impl fmt::Display for Named {
 /// A scope, by its kind and number.
 #[derive(Drop)]
 pub(crate) struct Scope {
-    kind: Kind,
-    number: u32,
-}
-
-impl Scope {
-    /// The scope of a number that an action opened.
-    pub(crate) fn opened_by(action: Action, number: u32) -> Scope {
-        let kind = match action {
-            Action::OpenTask => Kind::Task,
-            _ => Kind::Finish,
-        };
-        Scope { kind, number }
-    }
-
-    /// The scope of a number that a task closed: the task itself, or else a finish.
-    pub(crate) fn closed_in(task: u32, number: u32) -> Scope {
-        let kind = if number == task {
-            Kind::Task
-        } else {
-            Kind::Finish
-        };
-        Scope { kind, number }
-    }
+    pub(crate) kind: Kind,
+    pub(crate) number: u32,
 }
 
 impl fmt::Display for Scope {
+    ghost output = { λ scope. Some (scope_name scope.kind scope.number) };
+
     fn fmt<W: fmt::Write>(&self, f: &mut fmt::Formatter<W>) -> fmt::Result {
         let number = self.number;
         match self.kind {

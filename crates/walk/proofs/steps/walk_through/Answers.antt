@@ -1,7 +1,7 @@
 use Rattle.std.proofs.Common.{rules}
 use Rattle.walk.specs.Calls.{walk_setting}
 use Rattle.walk.specs.Walk.{Walked}
-use Rattle.walk.proofs.Plain.{walked_plain}
+use Rattle.walk.proofs.Plainly.{walked_plainly}
 use Rattle.walk.proofs.Rightly.{walked_in}
 use Rattle.walk.proofs.steps.walk_through.Goals as goal
 
@@ -12,4 +12,4 @@ pub invariant_of-result : goal.invariant_of-result
 invariant_of-result c =
     let w : Walked (walk_setting c.args.rule.now) c.args.actions.now c.in_ok-steps.steps.items c.check_plan-ending.result =
     search (rules, walked_in, c.in_ok-exchanges.ensures, c.in_ok-steps.ensures) in
-    record { plain = walked_plain w }
+    record { plainly = walked_plainly w }
