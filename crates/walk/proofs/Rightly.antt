@@ -1,5 +1,5 @@
 -- Right replies to the calls of a plan are the steps of a walk.
-use Rattle.std.proofs.Common.{◌≡◌, Bool, true, false, cond, is_err, List, [], ◌∷◌, ◌++◌, length, map, Vec, vec_items, vec_len, Global, sym, refl, ap, ◌∙◌, subst, append_assoc, arith}
+use Rattle.std.proofs.Common.{◌≡◌, List, [], ◌∷◌, ◌++◌, length, map, Vec, vec_items, vec_len, Global, sym, refl, ap, ◌∙◌, subst, append_assoc, arith}
 use Rattle.std.specs.Vec.{with_items}
 use Rattle.std.proofs.lemmas.List.{with_items_is}
 use Rattle.rules.specs.declared.Rule.{Rule}

@@ -1,5 +1,7 @@
 //! The lines that a walk prints.
+ghost use Rattle.std.specs.Prelude.{Some};
 ghost use Rattle.walk.specs.Lines.{Plainly};
+ghost use Rattle.walk.specs.Words.{totals_text, summary_text};
 
 use crate::calls::{NUMBERS, RECORDS};
 use crate::steps::{Step, Walk};
@@ -9,7 +11,7 @@ use orderings::{Kind, Told, Word};
 use rules::Rule;
 use shorthand::Action;
 use std::{fmt, io};
-use trace_check::{Refusal, Reply};
+use trace_check::{Counts, Refusal, Reply};
 
 /// The line of a step.
 #[derive(Drop)]
@@ -116,25 +118,48 @@ impl fmt::Display for Line<'_> {
     }
 }
 
+/// How many accesses, clashes and scopes there were.
+#[derive(Drop)]
+struct Totals(Counts);
+
+impl fmt::Display for Totals {
+    ghost output = { λ totals. Some (totals_text totals.0) };
+
+    fn fmt<W: fmt::Write>(&self, f: &mut fmt::Formatter<W>) -> fmt::Result {
+        let Counts {
+            accesses,
+            clashes,
+            scopes,
+        } = self.0;
+        let access = plural(accesses, "access", "accesses");
+        let scope = plural(scopes, "scope", "scopes");
+        write!(f, "{accesses} {access}, ")?;
+        write!(f, "{clashes} with a clash, ")?;
+        write!(f, "{scopes} {scope} begun")
+    }
+}
+
 /// The last line.
 #[derive(Drop)]
 struct Summary(Ending);
 
 impl fmt::Display for Summary {
+    ghost output = { λ summary. Some (summary_text summary.0) };
+
     fn fmt<W: fmt::Write>(&self, f: &mut fmt::Formatter<W>) -> fmt::Result {
-        let (ended, counts) = match self.0 {
-            Ending::Verdict(counts) => ("verdict", counts),
-            Ending::GivenUp(counts) => ("given up, for a scope besides main is still open", counts),
-        };
-        let accesses = counts.accesses;
-        let clashes = counts.clashes;
-        let scopes = counts.scopes;
-        let access = plural(accesses, "access", "accesses");
-        let scope = plural(scopes, "scope", "scopes");
-        write!(
-            f,
-            "{ended}: {accesses} {access}, {clashes} with a clash, {scopes} {scope} begun"
-        )
+        match self.0 {
+            Ending::Verdict(counts) => {
+                let totals = Totals(counts);
+                write!(f, "verdict: {totals}")
+            }
+            Ending::GivenUp(counts) => {
+                let totals = Totals(counts);
+                write!(
+                    f,
+                    "given up, for a scope besides main is still open: {totals}"
+                )
+            }
+        }
     }
 }
 

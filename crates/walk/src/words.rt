@@ -1,5 +1,5 @@
 //! The words for tasks, scopes and actions.
-ghost use Rattle.std.specs.Prelude.{Some};
+ghost use Rattle.std.specs.Prelude.{◌≡◌, ◌==◌, cond, Some};
 ghost use Rattle.walk.specs.Words.{task_name, scope_name};
 
 use orderings::Kind;
@@ -44,7 +44,9 @@ impl fmt::Display for Scope {
 }
 
 /// The word for one thing or for several.
-pub(crate) fn plural(number: u32, one: &'static str, many: &'static str) -> &'static str {
+pub(crate) fn plural(number: u32, one: &'static str, many: &'static str) -> &'static str
+    ensures { result.now ≡ cond (number == 1) one.now many.now }
+{
     if number == 1 { one } else { many }
 }
 
