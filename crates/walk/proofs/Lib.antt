@@ -1,4 +1,3 @@
 pub mod Pairing
-pub mod Plainly
 pub mod Rightly
-pub mod Saying
+pub mod Plainly

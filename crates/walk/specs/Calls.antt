@@ -3,19 +3,21 @@ use Rattle.std.specs.Prelude.{◌≡◌, List, [], ◌∷◌}
 use Rattle.rules.specs.declared.Rule.{Rule}
 use Rattle.rules.specs.Any.{known_under, clash_under}
 use Rattle.orderings.specs.declared.questions.Question.TheVariants.{WordOf, InnermostTask}
+use Rattle.orderings.specs.declared.words.Kind.TheVariants.{Task, Finish}
+use Rattle.orderings.specs.Exchanges.{calls_of}
 use Rattle.trace_check.specs.declared.words.Call.{Call}
-use Rattle.trace_check.specs.declared.words.Call.TheVariants.{OpenTask, OpenFinish, Close, Access, Ask}
+use Rattle.trace_check.specs.declared.words.Call.TheVariants.{Open, Close, Access, Ask}
 use Rattle.conversation.specs.declared.words.Ending.{Ending}
-use Rattle.conversation.specs.declared.words.Exchange.{Exchange}
+use Rattle.conversation.specs.Exchanges.{Exchange}
 use Rattle.conversation.specs.Replies.{Setting, events}
 use Rattle.conversation.specs.Theorem.{RepliesRight, Facts}
-use Rattle.conversation.specs.Conversation.{calls_of, ending}
+use Rattle.conversation.specs.Conversation.{ending}
 use Rattle.shorthand.specs.declared.words.Action.{Action}
 use Rattle.shorthand.specs.declared.words.Action.TheVariants.{OpenTask as opens_task, OpenFinish as opens_finish, Close as closes, Access as accesses, Ask as asks}
 
 abbrev pub call_of : Action → Call
-call_of opens_task = OpenTask
-call_of opens_finish = OpenFinish
+call_of opens_task = Open Task
+call_of opens_finish = Open Finish
 call_of closes = Close
 call_of (accesses c r) = Access c r
 call_of (asks t) = Ask (WordOf t)

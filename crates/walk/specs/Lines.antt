@@ -1,23 +1,22 @@
 -- What a step of a walk can be answered.
-use Rattle.std.specs.Prelude.{ℕ, ◌<◌, List, length, slice_index_or}
-use Rattle.orderings.specs.declared.questions.Told.{Told}
+use Rattle.std.specs.Prelude.{Bool, true, false, IsTrue, All, List, Ok, Err}
 use Rattle.orderings.specs.declared.questions.Told.TheVariants.{Word, Number, Kind}
-use Rattle.trace_check.specs.declared.words.Reply.{Reply}
-use Rattle.trace_check.specs.declared.words.Reply.TheVariants.{Opened, Closed, Found, Told as tells, Refused}
+use Rattle.trace_check.specs.declared.words.Reply.TheVariants.{Opened, Closed, Found, Told as tells}
+use Rattle.conversation.specs.Exchanges.{Answer}
 use Rattle.walk.specs.declared.steps.Step.{Step}
 
-abbrev pub AWord : Told → Type 0
-AWord (Word w) = Unit {0}
-AWord (Number n) = ⊥
-AWord (Kind k) = ⊥
+abbrev pub is_plain : Answer → Bool
+is_plain (Ok (Opened n)) = true
+is_plain (Ok (Closed n)) = true
+is_plain (Ok (Found f)) = true
+is_plain (Ok (tells (Word w))) = true
+is_plain (Ok (tells (Number n))) = false
+is_plain (Ok (tells (Kind k))) = false
+is_plain (Err e) = true
 
 -- an answer to a question is a word
-abbrev pub Plainly : Reply → Type 0
-Plainly (Opened n) = Unit {0}
-Plainly (Closed n) = Unit {0}
-Plainly (Found f) = Unit {0}
-Plainly (tells t) = AWord t
-Plainly (Refused e) = Unit {0}
+abbrev pub Plainly : Answer → Type 0
+Plainly reply = IsTrue (is_plain reply)
 
 abbrev pub AllPlainly : List Step → Type 0
-AllPlainly xs = (k : ℕ) (d : Step) → k < length xs → Plainly (slice_index_or xs k d).reply
+AllPlainly xs = All (λ (x : Step). Plainly x.reply) xs

@@ -1,21 +1,20 @@
 -- The steps that a list of exchanges holds.
-use Rattle.std.specs.Prelude.{ℕ, List, [], ◌∷◌}
+use Rattle.std.specs.Prelude.{ℕ, List, [], ◌∷◌, Ok, Err}
 use Rattle.orderings.specs.declared.questions.Told.TheVariants.{Word, Number, Kind}
-use Rattle.trace_check.specs.declared.words.Reply.{Reply}
-use Rattle.trace_check.specs.declared.words.Reply.TheVariants.{Opened, Closed, Found, Told as tells, Refused}
-use Rattle.conversation.specs.declared.words.Exchange.{Exchange}
+use Rattle.trace_check.specs.declared.words.Reply.TheVariants.{Opened, Closed, Found, Told as tells}
+use Rattle.conversation.specs.Exchanges.{Answer, Exchange}
 use Rattle.shorthand.specs.declared.words.Action.{Action}
 use Rattle.walk.specs.declared.steps.Step.{Step}
 
 -- the number that a reply tells, 0 if it tells none
-abbrev pub number_told : Reply → ℕ
-number_told (Opened n) = 0
-number_told (Closed n) = 0
-number_told (Found f) = 0
-number_told (tells (Word w)) = 0
-number_told (tells (Number n)) = n
-number_told (tells (Kind k)) = 0
-number_told (Refused e) = 0
+abbrev pub number_told : Answer → ℕ
+number_told (Ok (Opened n)) = 0
+number_told (Ok (Closed n)) = 0
+number_told (Ok (Found f)) = 0
+number_told (Ok (tells (Word w))) = 0
+number_told (Ok (tells (Number n))) = n
+number_told (Ok (tells (Kind k))) = 0
+number_told (Err e) = 0
 
 -- exchanges taken two by two: the question which task is innermost, and the action
 abbrev pub paired : List Action → List Exchange → List Step

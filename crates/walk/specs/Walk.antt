@@ -1,10 +1,10 @@
 -- What a walk tells.
-use Rattle.std.specs.Prelude.{◌≡◌, ℕ, Bool, not, ◌&&◌, List, [], ◌∷◌, map, is_some, None}
+use Rattle.std.specs.Prelude.{◌≡◌, ℕ, Bool, not, ◌&&◌, List, [], ◌∷◌, map, is_some, is_err, None}
 use Rattle.rules.specs.declared.Rule.{Rule}
 use Rattle.graph.specs.History.{History, scopes, innermost_task}
 use Rattle.conversation.specs.declared.words.Ending.{Ending}
-use Rattle.conversation.specs.declared.words.Exchange.{Exchange}
-use Rattle.conversation.specs.Replies.{Setting, reply_to, event_of, is_refusal, after, events}
+use Rattle.conversation.specs.Exchanges.{Exchange}
+use Rattle.conversation.specs.Replies.{Setting, reply_to, event_of, after, events}
 use Rattle.conversation.specs.Conversation.{ending}
 use Rattle.shorthand.specs.declared.words.Action.{Action}
 use Rattle.shorthand.specs.Reading.{heading, reading}
@@ -21,7 +21,7 @@ exchange x = record { call = call_of x.action; reply = x.reply }
 
 -- a step is an event if its action is an open, a close or an access, and was accepted
 abbrev pub is_event : Step → Bool
-is_event x = not (is_refusal x.reply) && is_some (event_of (call_of x.action))
+is_event x = not (is_err x.reply) && is_some (event_of (call_of x.action))
 
 -- an action put after a history: the task that it belongs to, and the reply
 abbrev pub step : Setting → History → Action → Step

@@ -1,15 +1,15 @@
 //! The calls that the actions of a plan are.
 ghost use Rattle.std.specs.Prelude.{◌≡◌, IfOk};
-ghost use Rattle.conversation.specs.Conversation.{calls_of};
+ghost use Rattle.orderings.specs.Exchanges.{calls_of};
 ghost use Rattle.walk.specs.Calls.{call_of, calls_for, Checked};
 
-use conversation::{Ending, Exchange, converse};
-use orderings::{Bags, Entry, Question, Told};
+use conversation::{Ending, Exchange, converse, to_put};
+use orderings::{Bags, Entry, Kind, Question};
 use rows::Row;
 use rules::Rule;
 use shorthand::Action;
 use std::alloc::{AllocError, Global};
-use trace_check::{Call, Reply};
+use trace_check::Call;
 
 /// How many scope numbers there are beyond main.
 pub(crate) const NUMBERS: usize = 1_024;
@@ -18,25 +18,16 @@ pub(crate) const RECORDS: usize = 256;
 
 const EVENT_LIMIT: u32 = 1_000_000;
 
+// No `From`: neither of the types is of this crate.
 fn call_of(action: Action) -> Call
     ensures { result ≡ call_of action }
 {
     match action {
-        Action::OpenTask => Call::OpenTask,
-        Action::OpenFinish => Call::OpenFinish,
+        Action::OpenTask => Call::Open(Kind::Task),
+        Action::OpenFinish => Call::Open(Kind::Finish),
         Action::Close => Call::Close,
         Action::Access(class, record) => Call::Access(class, record),
         Action::Ask(task) => Call::Ask(Question::WordOf(task)),
-    }
-}
-
-/// A call to put, with a place for the reply.
-fn to_put(call: Call) -> Exchange
-    ensures { result.call ≡ call }
-{
-    Exchange {
-        call,
-        reply: Reply::Told(Told::Number(0)),
     }
 }
 
@@ -59,8 +50,5 @@ pub(crate) fn check_plan(rule: &Rule, exchanges: &mut [Exchange]) -> Ending
     let mut table = [Entry::EMPTY; NUMBERS];
     let mut rows = [Row::EMPTY; RECORDS];
     let mut bags = Bags::new(&mut table);
-    match converse(&mut bags, rule, &mut rows, EVENT_LIMIT, exchanges) {
-        Ok(ending) => ending,
-        Err(_) => unreachable(),
-    }
+    converse(&mut bags, rule, &mut rows, EVENT_LIMIT, exchanges).unwrap()
 }

@@ -3,7 +3,7 @@ ghost use Rattle.std.specs.Prelude.{IfOk};
 ghost use Rattle.walk.specs.Walk.{Says};
 
 use rules::Rule;
-use shorthand::{Action, Fault, Reason, read};
+use shorthand::{Action, Fault, Misread, Reason, read};
 use std::alloc::{AllocError, Global};
 use std::io::Read;
 use std::{fmt, io};
@@ -16,8 +16,25 @@ const MOST: usize = 65_536;
 pub(crate) enum Stop {
     Input(io::Error),
     TooLong,
-    /// The position, counted from 1, the byte there if there is one, and what is wrong.
-    Misread(usize, Option<u8>, Reason),
+    Misread {
+        /// Counted from 1.
+        position: usize,
+        /// The byte there, if there is one.
+        byte: Option<u8>,
+        reason: Reason,
+    },
+}
+
+impl Stop {
+    fn misread(text: &[u8], misread: Misread) -> Stop {
+        let position = misread.position;
+        let place = position.saturating_sub(1);
+        Stop::Misread {
+            position,
+            byte: text.get(place).copied(),
+            reason: misread.reason,
+        }
+    }
 }
 
 impl From<io::Error> for Stop {
@@ -54,31 +71,17 @@ pub(crate) fn plan_of(heap: Global, text: &[u8]) -> Result<Script, Stop>
     ensures { IfOk result (λ s. Says text.now s.rule s.actions.items) }
 {
     let mut actions = vec![in heap; Action::Close; text.len()]?;
-    match read(text, &mut actions) {
-        Ok(plan) => {
-            actions.truncate(plan.count);
-            Ok(Script {
-                rule: plan.rule,
-                actions,
-            })
-        }
-        Err(Fault::Misread(misread)) => {
-            let place = misread.position.saturating_sub(1);
-            Err(Stop::Misread(misread.position, text.get(place).copied(), misread.reason))
-        }
+    // A match, no `map_err`: its closure would not know that there is room.
+    let plan = match read(text, &mut actions) {
+        Ok(plan) => plan,
+        Err(Fault::Misread(misread)) => return Err(Stop::misread(text, misread)),
         Err(Fault::NoRoom) => unreachable(),
-    }
-}
-
-fn expected(reason: Reason) -> &'static str {
-    match reason {
-        Reason::NoAction =>
-            "expected an action: T, F, ), r, w, a or ? or a class of two hexadecimal digits",
-        Reason::NoNumber => "expected a number",
-        Reason::TooLarge => "expected a number of at most 4294967295",
-        Reason::NoDigit => "expected the second hexadecimal digit of a class, 0 to 9 or A to F",
-        Reason::NoAt => "expected @ behind a class",
-    }
+    };
+    actions.truncate(plan.count);
+    Ok(Script {
+        rule: plan.rule,
+        actions,
+    })
 }
 
 impl fmt::Display for Stop {
@@ -86,18 +89,22 @@ impl fmt::Display for Stop {
         match self {
             Stop::Input(error) => write!(f, "{error}"),
             Stop::TooLong => write!(f, "the plan has more than {MOST} bytes"),
-            Stop::Misread(position, None, reason) => {
-                let expected = expected(*reason);
-                write!(f, "position {position}, the end of the plan: {expected}")
-            }
-            Stop::Misread(position, Some(byte), reason) => {
-                let expected = expected(*reason);
-                if byte.is_ascii_graphic() {
-                    let character = *byte as char;
-                    write!(f, "position {position}, character {character}: {expected}")
-                } else {
-                    write!(f, "position {position}, byte {byte}: {expected}")
+            Stop::Misread {
+                position,
+                byte,
+                reason,
+            } => {
+                write!(f, "position {position}, ")?;
+                match byte {
+                    None => write!(f, "the end of the plan")?,
+                    Some(byte) if byte.is_ascii_graphic() => write!(
+                        f,
+                        "character {}",
+                        *byte as char
+                    )?,
+                    Some(byte) => write!(f, "byte {byte}")?,
                 }
+                write!(f, ": {reason}")
             }
         }
     }

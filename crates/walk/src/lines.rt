@@ -1,116 +1,178 @@
 //! The lines that a walk prints.
-ghost use Rattle.std.specs.Prelude.{ℕ, ◌<◌, length};
-ghost use Rattle.walk.specs.Lines.{AWord, Plainly, AllPlainly};
+ghost use Rattle.std.specs.Prelude.{Some};
+ghost use Rattle.walk.specs.Lines.{Plainly};
+ghost use Rattle.walk.specs.Words.{totals_text, summary_text};
 
 use crate::calls::{NUMBERS, RECORDS};
 use crate::steps::{Step, Walk};
-use crate::words::{Deed, Named, layer_name, meaning, plural, rule_name};
+use crate::words::{Deed, Named, Scope, plural};
 use conversation::Ending;
-use orderings::{Told, Word};
-use rows::Finding;
+use orderings::{Kind, Told, Word};
 use rules::Rule;
 use shorthand::Action;
-use std::io;
+use std::{fmt, io};
 use trace_check::{Counts, Refusal, Reply};
 
-fn tell_setting(rt: &HostRuntime, rule: Rule) -> io::Result<()> {
-    let name = rule_name(rule);
-    println!(rt; "rule {name}, {RECORDS} records, {NUMBERS} scope numbers")
+/// The line of a step.
+#[derive(Drop)]
+struct Line<'a> {
+    rule: Rule,
+    /// The events so far are given by their numbers.
+    events: &'a [Step],
+    step: Step,
+    ghost plainly: { Plainly step.reply },
 }
 
-fn deed_of(rule: Rule, step: Step) -> Deed {
-    Deed {
-        rule,
-        task: step.task,
-        action: step.action,
+impl Line<'_> {
+    fn deed(&self, step: Step) -> Deed {
+        Deed {
+            rule: self.rule,
+            task: step.task,
+            action: step.action,
+        }
+    }
+
+    fn fmt_opened<W: fmt::Write>(&self, f: &mut fmt::Formatter<W>, number: u32) -> fmt::Result {
+        let event = self.events.len();
+        let who = Named(self.step.task);
+        let kind = match self.step.action {
+            Action::OpenTask => Kind::Task,
+            _ => Kind::Finish,
+        };
+        let scope = Scope { kind, number };
+        write!(f, "event {event}: {who} opens {scope}")
+    }
+
+    /// The scope closed is the task that the close belongs to, or else a finish.
+    fn fmt_closed<W: fmt::Write>(&self, f: &mut fmt::Formatter<W>, number: u32) -> fmt::Result {
+        let event = self.events.len();
+        let kind = if number == self.step.task {
+            Kind::Task
+        } else {
+            Kind::Finish
+        };
+        let scope = Scope { kind, number };
+        write!(f, "event {event}: {scope} ends")
+    }
+
+    fn fmt_clear<W: fmt::Write>(&self, f: &mut fmt::Formatter<W>) -> fmt::Result {
+        let event = self.events.len();
+        let deed = self.deed(self.step);
+        write!(f, "event {event}: {deed}: clear")
+    }
+
+    fn fmt_clash<W: fmt::Write>(&self, f: &mut fmt::Formatter<W>, earlier: u32) -> fmt::Result {
+        let event = self.events.len();
+        let deed = self.deed(self.step);
+        write!(f, "event {event}: {deed}: CLASH with event {earlier}")?;
+        if let Some(first) = self.events.get(earlier as usize) {
+            let other = self.deed(*first);
+            write!(f, ", where {other}")?;
+        }
+        write!(f, ": the two can come in either order")
+    }
+
+    fn fmt_told<W: fmt::Write>(&self, f: &mut fmt::Formatter<W>, word: Word) -> fmt::Result {
+        let deed = self.deed(self.step);
+        let who = Named(self.step.task);
+        match word {
+            Word::Before => write!(
+                f,
+                "question: {deed}: it is before, what it did comes ahead of what {who} does next"
+            ),
+            Word::Unordered => write!(
+                f,
+                "question: {deed}: it is unordered, what {who} does next can come ahead of it"
+            ),
+        }
+    }
+
+    fn fmt_refused<W: fmt::Write>(
+        &self,
+        f: &mut fmt::Formatter<W>,
+        refusal: Refusal,
+    ) -> fmt::Result {
+        let deed = self.deed(self.step);
+        let code = refusal.code();
+        let number = code.number;
+        let layer = code.layer;
+        let layer_number = u8::from(layer);
+        write!(
+            f,
+            "no event: {deed}: REFUSED by {number} of layer {layer_number}, {layer}: {refusal}"
+        )
     }
 }
 
-fn tell_open(rt: &HostRuntime, number: usize, step: Step, scope: u32) -> io::Result<()> {
-    let who = Named(step.task);
-    let kind = match step.action {
-        Action::OpenTask => "task",
-        _ => "finish",
-    };
-    println!(rt; "event {number}: {who} opens {kind} {scope}")
-}
-
-/// The scope closed is the task that the close belongs to, or else a finish.
-fn tell_close(rt: &HostRuntime, number: usize, step: Step, scope: u32) -> io::Result<()> {
-    let kind = if scope == step.task { "task" } else { "finish" };
-    println!(rt; "event {number}: {kind} {scope} ends")
-}
-
-/// What an access found. The events so far are given by their numbers.
-fn tell_access(
-    rt: &HostRuntime,
-    rule: Rule,
-    events: &[Step],
-    step: Step,
-    finding: Finding,
-) -> io::Result<()> {
-    let number = events.len();
-    let deed = deed_of(rule, step);
-    match finding {
-        Finding::Clear => println!(rt; "event {number}: {deed}: clear"),
-        Finding::Clash((earlier, _)) => {
-            print!(rt; "event {number}: {deed}: CLASH with event {earlier}")?;
-            if let Some(first) = events.get(earlier as usize) {
-                let other = deed_of(rule, *first);
-                print!(rt; ", where {other}")?;
-            }
-            println!(rt; ": the two can come in either order")
+impl fmt::Display for Line<'_> {
+    fn fmt<W: fmt::Write>(&self, f: &mut fmt::Formatter<W>) -> fmt::Result {
+        match self.step.reply {
+            Ok(Reply::Opened(scope)) => self.fmt_opened(f, scope),
+            Ok(Reply::Closed(scope)) => self.fmt_closed(f, scope),
+            Ok(Reply::Found(None)) => self.fmt_clear(f),
+            Ok(Reply::Found(Some((earlier, _)))) => self.fmt_clash(f, earlier),
+            Ok(Reply::Told(Told::Word(word))) => self.fmt_told(f, word),
+            Ok(Reply::Told(_)) => unreachable(),
+            Err(refusal) => self.fmt_refused(f, refusal),
         }
     }
 }
 
-fn tell_word(rt: &HostRuntime, rule: Rule, step: Step, told: Told) -> io::Result<()>
-    requires { AWord told }
-{
-    let deed = deed_of(rule, step);
-    let who = Named(step.task);
-    match told {
-        Told::Word(Word::Before) => println!(rt;
-            "question: {deed}: it is before, what it did comes ahead of what {who} does next"
-        ),
-        Told::Word(Word::Unordered) => println!(rt;
-            "question: {deed}: it is unordered, what {who} does next can come ahead of it"
-        ),
-        _ => unreachable(),
+/// How many accesses, clashes and scopes there were.
+#[derive(Drop)]
+struct Totals(Counts);
+
+impl fmt::Display for Totals {
+    ghost output = { λ totals. Some (totals_text totals.0) };
+
+    fn fmt<W: fmt::Write>(&self, f: &mut fmt::Formatter<W>) -> fmt::Result {
+        let Counts {
+            accesses,
+            clashes,
+            scopes,
+        } = self.0;
+        let access = plural(accesses, "access", "accesses");
+        let scope = plural(scopes, "scope", "scopes");
+        write!(f, "{accesses} {access}, ")?;
+        write!(f, "{clashes} with a clash, ")?;
+        write!(f, "{scopes} {scope} begun")
     }
 }
 
-fn tell_refusal(rt: &HostRuntime, rule: Rule, step: Step, refusal: Refusal) -> io::Result<()> {
-    let deed = deed_of(rule, step);
-    let code = refusal.code();
-    let number = code.number;
-    let layer = code.layer;
-    let name = layer_name(refusal);
-    let meaning = meaning(refusal);
-    println!(rt; "no event: {deed}: REFUSED by {number} of layer {layer}, {name}: {meaning}")
-}
+/// The last line.
+#[derive(Drop)]
+struct Summary(Ending);
 
-/// The line of a step. The events so far are given by their numbers.
-fn tell_step(rt: &HostRuntime, rule: Rule, events: &[Step], step: Step) -> io::Result<()>
-    requires { Plainly step.reply }
-{
-    let number = events.len();
-    match step.reply {
-        Reply::Opened(scope) => tell_open(rt, number, step, scope),
-        Reply::Closed(scope) => tell_close(rt, number, step, scope),
-        Reply::Found(finding) => tell_access(rt, rule, events, step, finding),
-        Reply::Told(told) => tell_word(rt, rule, step, told),
-        Reply::Refused(refusal) => tell_refusal(rt, rule, step, refusal),
+impl fmt::Display for Summary {
+    ghost output = { λ summary. Some (summary_text summary.0) };
+
+    fn fmt<W: fmt::Write>(&self, f: &mut fmt::Formatter<W>) -> fmt::Result {
+        match self.0 {
+            Ending::Verdict(counts) => {
+                let totals = Totals(counts);
+                write!(f, "verdict: {totals}")
+            }
+            Ending::GivenUp(counts) => {
+                let totals = Totals(counts);
+                write!(
+                    f,
+                    "given up, for a scope besides main is still open: {totals}"
+                )
+            }
+        }
     }
 }
 
 /// A line for each step.
-fn tell_steps(rt: &HostRuntime, rule: Rule, steps: &[Step]) -> io::Result<()>
-    requires { AllPlainly steps.now }
-{
+fn tell_steps(rt: &HostRuntime, rule: Rule, walk: &Walk) -> io::Result<()> {
     let mut events = Vec::new(rt.alloc());
-    for step in steps {
-        tell_step(rt, rule, &events, *step)?;
+    for step in &walk.steps {
+        let line = Line {
+            rule,
+            events: &events,
+            step: *step,
+        };
+        println!(rt; "{line}")?;
         if step.is_event() {
             events.push(*step)?;
         }
@@ -118,31 +180,10 @@ fn tell_steps(rt: &HostRuntime, rule: Rule, steps: &[Step]) -> io::Result<()>
     Ok(())
 }
 
-fn tell_counts(rt: &HostRuntime, ended: &str, counts: Counts) -> io::Result<()> {
-    let accesses = counts.accesses;
-    let clashes = counts.clashes;
-    let scopes = counts.scopes;
-    let access = plural(accesses, "access", "accesses");
-    let scope = plural(scopes, "scope", "scopes");
-    println!(rt; "{ended}: {accesses} {access}, {clashes} with a clash, {scopes} {scope} begun")
-}
-
-fn tell_ending(rt: &HostRuntime, ending: Ending) -> io::Result<()> {
-    match ending {
-        Ending::Verdict(counts) => tell_counts(rt, "verdict", counts),
-        Ending::GivenUp(counts) => tell_counts(
-            rt,
-            "given up, for a scope besides main is still open",
-            counts,
-        ),
-    }
-}
-
 /// The whole walk.
-pub(crate) fn tell(rt: &HostRuntime, rule: Rule, walk: &Walk) -> io::Result<()>
-    requires { AllPlainly walk.now.steps.items }
-{
-    tell_setting(rt, rule)?;
-    tell_steps(rt, rule, &walk.steps)?;
-    tell_ending(rt, walk.ending)
+pub(crate) fn tell(rt: &HostRuntime, rule: Rule, walk: &Walk) -> io::Result<()> {
+    println!(rt; "rule {rule}, {RECORDS} records, {NUMBERS} scope numbers")?;
+    tell_steps(rt, rule, walk)?;
+    let summary = Summary(walk.ending);
+    println!(rt; "{summary}")
 }

@@ -1,6 +1,7 @@
 //! The steps of a walk.
-ghost use Rattle.std.specs.Prelude.{◌≡◌, IfOk};
+ghost use Rattle.std.specs.Prelude.{◌≡◌, [], ◌∷◌, IfOk};
 ghost use Rattle.walk.specs.Calls.{walk_setting};
+ghost use Rattle.walk.specs.Lines.{AllPlainly};
 ghost use Rattle.walk.specs.Steps.{number_told, paired};
 ghost use Rattle.walk.specs.Walk.{is_event, Walked};
 
@@ -10,14 +11,14 @@ use orderings::Told;
 use rules::Rule;
 use shorthand::Action;
 use std::alloc::{AllocError, Global};
-use trace_check::Reply;
+use trace_check::{Refusal, Reply};
 
 /// An action, the task that it belongs to, and the reply.
 #[derive(Clone, Copy)]
 pub(crate) struct Step {
     pub(crate) task: u32,
     pub(crate) action: Action,
-    pub(crate) reply: Reply,
+    pub(crate) reply: Result<Reply, Refusal>,
 }
 
 impl Step {
@@ -25,25 +26,33 @@ impl Step {
     pub(crate) fn is_event(self) -> bool
         ensures { result ≡ is_event self }
     {
-        match (self.action, self.reply) {
-            (Action::Ask(_), _) => false,
-            (_, Reply::Refused(_)) => false,
-            _ => true,
-        }
+        self.reply.is_ok() && !matches!(self.action, Action::Ask(_))
     }
 }
 
 /// The number that a reply tells.
-fn number_told(reply: Reply) -> u32
+fn number_told(reply: Result<Reply, Refusal>) -> u32
     ensures { result ≡ number_told reply }
 {
     match reply {
-        Reply::Told(Told::Number(number)) => number,
+        Ok(Reply::Told(Told::Number(number))) => number,
         _ => 0,
     }
 }
 
-/// Takes the exchanges two by two: the question which task is innermost, and the action.
+/// The step of an action, from two exchanges: the question which task is innermost, and the action.
+fn step_of(action: Action, pair: &[Exchange; 2]) -> Step
+    ensures { result ∷ [] ≡ paired (action ∷ []) pair.now }
+{
+    let [asked, put] = pair;
+    Step {
+        task: number_told(asked.reply),
+        action,
+        reply: put.reply,
+    }
+}
+
+/// Takes the exchanges two by two.
 pub(crate) fn steps_of(
     heap: Global,
     actions: &[Action],
@@ -51,21 +60,12 @@ pub(crate) fn steps_of(
 ) -> Result<Vec<Step>, AllocError>
     ensures { IfOk result (λ v. v.items ≡ paired actions.now exchanges.now) }
 {
-    let mut steps = Vec::new(heap);
-    let mut rest = exchanges;
-    for action in actions {
-        if rest.len() < 2 {
-            break;
-        }
-        let task = number_told(rest[0].reply);
-        steps.push(Step {
-            task,
-            action: *action,
-            reply: rest[1].reply,
-        })?;
-        rest = &rest[2..];
-    }
-    Ok(steps)
+    let (pairs, _) = exchanges.as_chunks::<2>();
+    actions
+        .iter()
+        .zip(pairs)
+        .map(|(action, pair)| step_of(*action, pair))
+        .collect(heap)
 }
 
 /// The steps of a walk, and its end.
@@ -73,6 +73,7 @@ pub(crate) fn steps_of(
 pub(crate) struct Walk {
     pub(crate) steps: Vec<Step>,
     pub(crate) ending: Ending,
+    ghost plainly: { AllPlainly steps.items },
 }
 
 /// Puts the actions to a check, one after the other.

@@ -1,16 +1,19 @@
-//! The words for tasks, actions and refusals.
-use orderings::Fault;
-use rows::RowFault;
+//! The words for tasks, scopes and actions.
+ghost use Rattle.std.specs.Prelude.{◌≡◌, ◌==◌, cond, Some};
+ghost use Rattle.walk.specs.Words.{task_name, scope_name};
+
+use orderings::Kind;
 use rules::Rule;
 use shorthand::Action;
 use std::fmt;
-use trace_check::Refusal;
 
 /// A task by its name.
 #[derive(Drop)]
 pub(crate) struct Named(pub(crate) u32);
 
 impl fmt::Display for Named {
+    ghost output = { λ named. Some (task_name named.0) };
+
     fn fmt<W: fmt::Write>(&self, f: &mut fmt::Formatter<W>) -> fmt::Result {
         let number = self.0;
         if number == 0 {
@@ -21,8 +24,29 @@ impl fmt::Display for Named {
     }
 }
 
+/// A scope, by its kind and number.
+#[derive(Drop)]
+pub(crate) struct Scope {
+    pub(crate) kind: Kind,
+    pub(crate) number: u32,
+}
+
+impl fmt::Display for Scope {
+    ghost output = { λ scope. Some (scope_name scope.kind scope.number) };
+
+    fn fmt<W: fmt::Write>(&self, f: &mut fmt::Formatter<W>) -> fmt::Result {
+        let number = self.number;
+        match self.kind {
+            Kind::Task => write!(f, "task {number}"),
+            Kind::Finish => write!(f, "finish {number}"),
+        }
+    }
+}
+
 /// The word for one thing or for several.
-pub(crate) fn plural(number: u32, one: &'static str, many: &'static str) -> &'static str {
+pub(crate) fn plural(number: u32, one: &'static str, many: &'static str) -> &'static str
+    ensures { result.now ≡ cond (number == 1) one.now many.now }
+{
     if number == 1 { one } else { many }
 }
 
@@ -110,38 +134,5 @@ impl fmt::Display for Deed {
                 write!(f, "asks about {asked}")
             }
         }
-    }
-}
-
-pub(crate) fn rule_name(rule: Rule) -> &'static str {
-    match rule {
-        Rule::Plain(_) => "plain",
-        Rule::Depot(_) => "depot",
-        Rule::Field(_) => "field",
-    }
-}
-
-/// The layer that refuses.
-pub(crate) fn layer_name(refusal: Refusal) -> &'static str {
-    match refusal {
-        Refusal::Order(_) => "the ordering",
-        _ => "the check",
-    }
-}
-
-/// What a refusal means.
-pub(crate) fn meaning(refusal: Refusal) -> &'static str {
-    match refusal {
-        Refusal::NoSuchRecord => "there is no such record",
-        Refusal::UnknownClass => "the rule does not know the class",
-        Refusal::BadStart => "the check cannot start so",
-        Refusal::LimitReached => "there are as many events as the limit",
-        Refusal::ScopeOpen => "a scope besides main is open",
-        Refusal::AlreadyBegun => "the ordering has begun more than main",
-        Refusal::Row(RowFault::Full) => "the record holds eight other classes",
-        Refusal::Row(RowFault::Damaged) => "the record's row is damaged",
-        Refusal::Order(Fault::NoSuchTask) => "no task has that number",
-        Refusal::Order(Fault::NoNumberLeft) => "no scope number is left",
-        Refusal::Order(Fault::MainAlone) => "main alone is open",
     }
 }

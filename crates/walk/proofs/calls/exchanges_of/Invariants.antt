@@ -1,5 +1,5 @@
 use Rattle.std.proofs.Common.{◌≡◌, ◌++◌, drop, vec_items}
-use Rattle.conversation.specs.Conversation.{calls_of}
+use Rattle.orderings.specs.Exchanges.{calls_of}
 use Rattle.walk.specs.Calls.{calls_for}
 use Rattle.walk.proofs.calls.exchanges_of.Given as goal
 
