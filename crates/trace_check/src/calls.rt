@@ -1,7 +1,8 @@
 //! The calls of a check. What they promise of the ordering's meaning, they promise where the ordering is sound.
 //! The ordering, the rule and the rows are the owner's. They are no struct: each call is handed those that it takes.
-ghost use Rattle.std.specs.Prelude.{◌≡◌, ℕ, ◌<◌, length, Ok, Err};
+ghost use Rattle.std.specs.Prelude.{◌≡◌, ℕ, ◌<◌, length, Ok, Err, IfOk};
 ghost use Rattle.orderings.specs.Meaning.{opening, closing, after_open, after_close};
+ghost use Rattle.trace_check.specs.View.{InOrder};
 ghost use Rattle.trace_check.specs.Calls.{start_answer, start_rows, limited, by_ordering, when_room, one_more, access_answer, one_access, access_rows, verdict_answer, counted};
 
 use crate::state::Check;
@@ -16,6 +17,7 @@ impl Check {
         ensures answer { O.Ordering.sound ordering.now →
             result ≡ start_answer (length rows.old) limit (length (O.Ordering.meaning ordering.now).begun) }
         ensures rows { rows.new ≡ start_rows result rows.old }
+        ensures in_order { IfOk result InOrder }
     {
         if rows.len() < 1 || rows.len() > 65536 || limit < 1 || limit > 1000000 {
             return Err(Refusal::BadStart);
@@ -37,6 +39,7 @@ impl Check {
         ensures answer { O.Ordering.sound ordering.old →
             result ≡ limited self.old (by_ordering (opening (O.Ordering.meaning ordering.old))) }
         ensures check { self.new ≡ one_more self.old result }
+        ensures in_order { InOrder self.new }
         ensures kept { O.Ordering.sound ordering.old → O.Ordering.sound ordering.new }
         ensures after { O.Ordering.sound ordering.old →
             O.Ordering.meaning ordering.new ≡
@@ -56,6 +59,7 @@ impl Check {
         ensures answer { O.Ordering.sound ordering.old →
             result ≡ limited self.old (by_ordering (closing (O.Ordering.meaning ordering.old))) }
         ensures check { self.new ≡ one_more self.old result }
+        ensures in_order { InOrder self.new }
         ensures kept { O.Ordering.sound ordering.old → O.Ordering.sound ordering.new }
         ensures after { O.Ordering.sound ordering.old →
             O.Ordering.meaning ordering.new ≡
@@ -95,6 +99,7 @@ impl Check {
             self.old (O.Ordering.meaning ordering.old) rows.old «class»
             «record» }
         ensures check { self.new ≡ one_access self.old result }
+        ensures in_order { InOrder self.new }
         ensures kept { O.Ordering.sound ordering.old → O.Ordering.sound ordering.new }
         ensures same { O.Ordering.sound ordering.old →
             O.Ordering.meaning ordering.new ≡ O.Ordering.meaning ordering.old }
@@ -123,8 +128,9 @@ impl Check {
 
     /// Takes the verdict. While a scope besides main is open the check is handed back.
     pub fn verdict<O: Ordering>(self, ordering: &O) -> Result<Counts, (Refusal, Check)>
-        ensures { O.Ordering.sound ordering.now →
+        ensures answer { O.Ordering.sound ordering.now →
             result ≡ verdict_answer self (O.Ordering.meaning ordering.now) }
+        ensures in_order { InOrder self }
     {
         if ordering.open_count() != 1 {
             return Err((Refusal::ScopeOpen, self));
@@ -134,8 +140,9 @@ impl Check {
 
     /// Ends the check, whatever is open.
     pub fn give_up<O: Ordering>(self, ordering: &O) -> Counts
-        ensures { O.Ordering.sound ordering.now →
+        ensures answer { O.Ordering.sound ordering.now →
             result ≡ counted self (length (O.Ordering.meaning ordering.now).begun) }
+        ensures in_order { InOrder self }
     {
         let Check {
             limit: _,
