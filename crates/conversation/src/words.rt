@@ -19,6 +19,7 @@ pub fn to_put(call: Call) -> Exchange
 }
 
 /// How a conversation ends: with the verdict, or given up while a scope besides main is open.
+// No `Result`: to be given up is no failure, and the counts are the same.
 #[derive(Clone, Copy, Debug, PartialEq, Eq)]
 pub enum Ending {
     Verdict(Counts),

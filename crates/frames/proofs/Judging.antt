@@ -1,5 +1,5 @@
 -- Each answer comes exactly where it should.
-use Rattle.std.proofs.Common.{◌≡◌, ℕ, ◌+◌, ◌%◌, ◌<◌, ◌≤◌, Bool, cond, List, [], ◌∷◌, ◌++◌, length, take, Some, None, Ok, Err, Option, Result, sym, refl, ap, ◌∙◌, subst, append_assoc, arith, lit<, length-append}
+use Rattle.std.proofs.Common.{◌≡◌, ℕ, ◌+◌, ◌%◌, ◌<◌, ◌≤◌, Bool, cond, List, [], ◌∷◌, ◌++◌, length, take, Some, None, Ok, Err, Option, Result, sym, refl, ap, ◌∙◌, subst, append_assoc, arith, lit<}
 use Rattle.std.proofs.lemmas.List.{length_push}
 use Rattle.std.proofs.lemmas.Bool.{cond_both, both_ways}
 use Rattle.frames.specs.declared.words.Frame.{Frame}
@@ -8,7 +8,7 @@ use Rattle.frames.specs.declared.words.LineFault.{LineFault}
 use Rattle.frames.specs.declared.words.LineFault.TheVariants.{NoLine, UnknownKind, WrongLength}
 use Rattle.frames.specs.Layout.{fields, body}
 use Rattle.frames.specs.Lines.{Line, FrameRead, IsNoLine, OfNoKind, OfWrongLength, Judged}
-use Rattle.frames.specs.Reading.{run, whole, framed, told, read_at, reading, Within}
+use Rattle.frames.specs.Reading.{run, whole, framed, told, read_at, reading}
 use Rattle.frames.proofs.Fields.{all_fields}
 use Rattle.frames.proofs.Shapes.{Framed, framed_right, framed_back}
 use Rattle.frames.proofs.Runs.{line_run, line_digits, line_whole, whole_line}
@@ -51,21 +51,13 @@ right bytes =
     (λ e. line_right bytes (whole_line bytes e)) (λ e ds w. both_ways (whole (run bytes) bytes) e (line_whole bytes ds w))
 
 -- What is written is read.
-some_body : (f : Frame) → 0 < length (body (fields f))
-some_body (Header a b) = lit< tt
-some_body OpenTask = lit< tt
-some_body OpenFinish = lit< tt
-some_body Close = lit< tt
-some_body (Access a b) = lit< tt
-some_body (End a) = lit< tt
-
-even_body : (f : Frame) → length (body (fields f)) % 2 ≡ 0
-even_body (Header a b) = refl
-even_body OpenTask = refl
-even_body OpenFinish = refl
-even_body Close = refl
-even_body (Access a b) = refl
-even_body (End a) = refl
+body_shape : (f : Frame) → (0 < length (body (fields f))) × (length (body (fields f)) % 2 ≡ 0)
+body_shape (Header a b) = (lit< tt, refl)
+body_shape OpenTask = (lit< tt, refl)
+body_shape OpenFinish = (lit< tt, refl)
+body_shape Close = (lit< tt, refl)
+body_shape (Access a b) = (lit< tt, refl)
+body_shape (End a) = (lit< tt, refl)
 
 frame_line : (bytes : List ℕ) (f : Frame) (taken : ℕ) → FrameRead bytes f taken → Line bytes (body (fields f))
 frame_line bytes f taken w =
@@ -73,8 +65,8 @@ frame_line bytes f taken w =
       rest = w.rest;
       begins = w.begins ∙ append_assoc (body (fields f)) (10 ∷ []) w.rest;
       all = all_fields (fields f) w.fit;
-      some = some_body f;
-      even = even_body f;
+      some = (body_shape f).0;
+      even = (body_shape f).1;
     }
 
 abbrev read_as : Frame → ℕ → Answer
@@ -137,15 +129,3 @@ judged_at bytes r w x =
 
 pub judged : (bytes : List ℕ) (r : Answer) → r ≡ reading bytes → Judged bytes r
 judged bytes r e = subst (Judged bytes) (sym e) (judged_at bytes (reading bytes) (right bytes) (exact bytes))
-
-read_within : (bytes : List ℕ) (r : Answer) → Read bytes r → Within (length bytes) r
-read_within bytes (Ok p) w =
-    let taken : p.1 ≡ length (body (fields p.0)) + 1 = w.takes ∙ length_push (body (fields p.0)) 10 in
-    let long = simp length-append at (ap length w.begins) in
-    (omega arith, omega (arith, w.takes, long))
-read_within bytes (Err NoLine) w = tt
-read_within bytes (Err UnknownKind) w = tt
-read_within bytes (Err WrongLength) w = tt
-
-pub within : (bytes : List ℕ) (r : Answer) → r ≡ reading bytes → Within (length bytes) r
-within bytes r e = subst (Within (length bytes)) (sym e) (read_within bytes (reading bytes) (right bytes))

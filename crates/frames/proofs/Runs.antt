@@ -1,24 +1,25 @@
 -- The digits that bytes begin with, and the line that they begin with.
-use Rattle.std.proofs.Common.{◌≡◌, ℕ, suc, ◌+◌, ◌%◌, ◌<◌, ◌≤◌, Bool, true, cond, List, [], ◌∷◌, ◌++◌, length, get_or, take, drop, sym, refl, ap, ◌∙◌, subst, inl, inr, arith, length-take-le}
+use Rattle.std.proofs.Common.{◌≡◌, ℕ, suc, ◌%◌, ◌<◌, true, List, [], ◌∷◌, ◌++◌, length, get_or, take, drop, get_or-take, refl, ap, ◌∙◌, arith}
 use lib.Seq.{take-append_seam, get_or-append_seam, split_at}
 use Rattle.std.proofs.lemmas.Bool.Decides.{nat_tests}
-use Rattle.std.proofs.lemmas.Bool.{cases_lt, cases_Bool}
-use Rattle.std.proofs.lemmas.List.{get_or_past, drop_more, drop_all}
-use Rattle.frames.specs.Digits.{is_digit, AllDigits}
+use Rattle.std.proofs.lemmas.List.{get_or_past}
+use Rattle.std.proofs.lemmas.List.Elements.{All-head, All-tail}
+use Rattle.std.proofs.lemmas.List.Folds.{length-prefix_len}
+use Rattle.std.proofs.lemmas.List.Sums.{prefix_len_passes}
+use Rattle.std.specs.List.{AllPass}
+use Rattle.frames.specs.Digits.{is_digit}
 use Rattle.frames.specs.Lines.{Line}
 use Rattle.frames.specs.Reading.{run, whole}
+use Rattle.frames.proofs.Numbers.{IsDigit}
 
-run_all : (ds rest : List ℕ) → AllDigits ds → run (ds ++ 10 ∷ rest) ≡ length ds
+run_all : (ds rest : List ℕ) → AllPass is_digit ds → run (ds ++ 10 ∷ rest) ≡ length ds
 run_all [] rest a = refl
-run_all (d ∷ ds) rest a = rw a.0 (ap suc (run_all ds rest a.1))
+run_all (d ∷ ds) rest a = rw (All-head IsDigit d ds a) (omega (arith, run_all ds rest (All-tail IsDigit d ds a)))
 
-run_digits : (bytes : List ℕ) → AllDigits (take (run bytes) bytes)
-run_digits [] = tt
-run_digits (b ∷ bytes) =
-    elim (cases_Bool (is_digit b)) [
-      | inl e ↦ subst (λ (t : Bool). AllDigits (take (cond t (suc (run bytes)) 0) (b ∷ bytes))) (sym e) (e, run_digits bytes)
-      | inr e ↦ subst (λ (t : Bool). AllDigits (take (cond t (suc (run bytes)) 0) (b ∷ bytes))) (sym e) tt
-    ]
+run_digits : (bytes : List ℕ) → AllPass is_digit (take (run bytes) bytes)
+run_digits bytes k d h =
+    let lt : k < run bytes = omega (arith, length-prefix_len is_digit bytes) in
+    rw (get_or-take (run bytes) bytes k d lt) (prefix_len_passes is_digit bytes k d lt)
 
 pub line_run : (bytes ds : List ℕ) → Line bytes ds → run bytes ≡ length ds
 line_run bytes ds w = ap run w.begins ∙ run_all ds w.rest w.all
@@ -35,38 +36,21 @@ line_whole bytes ds w =
     let g : get_or bytes (length ds) 0 ≡ 10 = rw w.begins (get_or-append_seam ds 10 w.rest 0) in
     rw (line_run bytes ds w) (whole_is (length ds) bytes w.some w.even g)
 
-whole_some : (n : ℕ) (bytes : List ℕ) → whole n bytes ≡ true → 0 < n
-whole_some n bytes h = grind (arith, nat_tests)
-
-whole_even : (n : ℕ) (bytes : List ℕ) → whole n bytes ≡ true → n % 2 ≡ 0
-whole_even n bytes h = grind (arith, nat_tests)
-
-whole_ends : (n : ℕ) (bytes : List ℕ) → whole n bytes ≡ true → get_or bytes n 0 ≡ 10
-whole_ends n bytes h = grind (arith, nat_tests)
+-- what the test of a whole line tells
+whole_means : (n : ℕ) (bytes : List ℕ) → whole n bytes ≡ true → (0 < n) × (n % 2 ≡ 0) × (get_or bytes n 0 ≡ 10)
+whole_means n bytes h = (grind (arith, nat_tests), grind (arith, nat_tests), grind (arith, nat_tests))
 
 ends_within : (n : ℕ) (bytes : List ℕ) → get_or bytes n 0 ≡ 10 → n < length bytes
-ends_within n bytes e =
-    elim (cases_lt n (length bytes)) [ inl h ↦ h | inr h ↦ absurd (let z : get_or bytes n 0 ≡ 0 = get_or_past bytes n 0 h in let w : ⊥ = omega arith in w) ]
-
-pub whole_within : (n : ℕ) (bytes : List ℕ) → whole n bytes ≡ true → n < length bytes
-whole_within n bytes h = ends_within n bytes (whole_ends n bytes h)
+ends_within n bytes e = grind (arith, get_or_past)
 
 pub whole_line : (bytes : List ℕ) → whole (run bytes) bytes ≡ true → Line bytes (take (run bytes) bytes)
 whole_line bytes h =
-    let lt : run bytes < length bytes = whole_within (run bytes) bytes h in
-    let long : length (take (run bytes) bytes) ≡ run bytes = length-take-le (run bytes) bytes (omega arith) in
+    let means = whole_means (run bytes) bytes h in
+    let long : length (take (run bytes) bytes) ≡ run bytes = length-prefix_len is_digit bytes in
     record {
       rest = drop (suc (run bytes)) bytes;
-      begins = split_at bytes (run bytes) 0 lt ∙ ap (λ (x : ℕ). take (run bytes) bytes ++ x ∷ drop (suc (run bytes)) bytes) (whole_ends (run bytes) bytes h);
+      begins = split_at bytes (run bytes) 0 (ends_within (run bytes) bytes means.2) ∙ ap (λ (x : ℕ). take (run bytes) bytes ++ x ∷ drop (suc (run bytes)) bytes) means.2;
       all = run_digits bytes;
-      some = rw long (whole_some (run bytes) bytes h);
-      even = rw long (whole_even (run bytes) bytes h);
+      some = rw long means.0;
+      even = rw long means.1;
     }
-
--- The digits counted one by one.
-pub run_step : (bytes : List ℕ) (i : ℕ) → i < length bytes
-    → run (drop i bytes) ≡ cond (is_digit (get_or bytes i 0)) (suc (run (drop (i + 1) bytes))) 0
-run_step bytes i h = ap run (drop_more bytes i 0 h)
-
-pub run_end : (bytes : List ℕ) (i : ℕ) → length bytes ≤ i → run (drop i bytes) ≡ 0
-run_end bytes i h = ap run (drop_all i bytes h)

@@ -1,12 +1,17 @@
 -- The digits of a line are read as the frame that is written so, by its kind and its length.
-use Rattle.std.proofs.Common.{◌≡◌, ℕ, ◌+◌, ◌≤◌, eqb, List, [], ◌∷◌, ◌++◌, length, take, drop, Some, None, Ok, Err, Option, Result, sym, refl, ap, ◌∙◌, subst, arith}
+use Rattle.std.proofs.Common.{◌≡◌, ◌≢◌, ℕ, ◌+◌, ◌≤◌, eqb, List, [], ◌∷◌, ◌++◌, length, take, drop, Some, None, Ok, Err, Option, Result, sym, refl, ap, ◌∙◌, subst, arith}
 use Rattle.std.proofs.lemmas.Bool.{cond_both, eqb-true, eqb-false}
 use Rattle.std.proofs.lemmas.List.{drop_all}
+use Rattle.std.proofs.lemmas.Bool.Decides.{nat_tests}
+use Rattle.frames.specs.declared.kind.Kind.{Kind}
+use Rattle.frames.specs.declared.kind.Kind.TheVariants as kinds
 use Rattle.frames.specs.declared.words.Frame.{Frame}
 use Rattle.frames.specs.declared.words.Frame.TheVariants.{Header, OpenTask, OpenFinish, Close, Access, End}
 use Rattle.frames.specs.declared.words.LineFault.{LineFault}
 use Rattle.frames.specs.declared.words.LineFault.TheVariants.{NoLine, UnknownKind, WrongLength}
-use Rattle.frames.specs.Digits.{digits, number, said, AllDigits}
+use Rattle.std.specs.List.{AllPass}
+use Rattle.frames.specs.Digits.{digits, number, said, is_digit}
+use Rattle.frames.specs.Kinds.{number_of}
 use Rattle.frames.specs.Layout.{Field, Fit, fields, body}
 use Rattle.frames.specs.Lines.{OfKind}
 use Rattle.frames.specs.Reading.{shaped, sized, framed}
@@ -23,7 +28,7 @@ fields_at from [] ds = []
 fields_at from (w ∷ ws) ds = (w, said w from ds) ∷ fields_at (from + w) ws ds
 
 -- digits are those of the fields that they are cut into
-fields_back : (from : ℕ) (ws ds : List ℕ) → AllDigits ds → from + total ws ≡ length ds
+fields_back : (from : ℕ) (ws ds : List ℕ) → AllPass is_digit ds → from + total ws ≡ length ds
     → (drop from ds ≡ body (fields_at from ws ds)) × Fit (fields_at from ws ds)
 fields_back from [] ds a e = (drop_all from ds (omega arith), tt)
 fields_back from (w ∷ ws) ds a e =
@@ -35,38 +40,30 @@ fields_back from (w ∷ ws) ds a e =
 abbrev kind : Frame → ℕ
 kind f = number (take 2 (body (fields f)))
 
-kind_digits : (f : Frame) → digits 2 (kind f) ≡ take 2 (body (fields f))
-kind_digits (Header a b) = refl
-kind_digits OpenTask = refl
-kind_digits OpenFinish = refl
-kind_digits Close = refl
-kind_digits (Access a b) = refl
-kind_digits (End a) = refl
-
 -- the number of digits of a kind
 abbrev size_of : ℕ → ℕ
 size_of k = length (body (fields (elim (shaped k []) [ Some f ↦ f | None ↦ Close ])))
 
-size_right : (f : Frame) → length (body (fields f)) ≡ size_of (kind f)
-size_right (Header a b) = refl
-size_right OpenTask = refl
-size_right OpenFinish = refl
-size_right Close = refl
-size_right (Access a b) = refl
-size_right (End a) = refl
+kind_right : (f : Frame) → (digits 2 (kind f) ≡ take 2 (body (fields f))) × (length (body (fields f)) ≡ size_of (kind f))
+kind_right (Header a b) = (refl, refl)
+kind_right OpenTask = (refl, refl)
+kind_right OpenFinish = (refl, refl)
+kind_right Close = (refl, refl)
+kind_right (Access a b) = (refl, refl)
+kind_right (End a) = (refl, refl)
 
 kind_same : (ds : List ℕ) (f : Frame) → OfKind ds f → said 2 0 ds ≡ kind f
 kind_same ds f e = ap number e
 
-kind_back : (ds : List ℕ) (f : Frame) → AllDigits ds → 2 ≤ length ds → said 2 0 ds ≡ kind f → OfKind ds f
-kind_back ds f a h e = sym (digits_said 2 0 ds a h) ∙ ap (digits 2) e ∙ kind_digits f
+kind_back : (ds : List ℕ) (f : Frame) → AllPass is_digit ds → 2 ≤ length ds → said 2 0 ds ≡ kind f → OfKind ds f
+kind_back ds f a h e = sym (digits_said 2 0 ds a h) ∙ ap (digits 2) e ∙ (kind_right f).0
 
 -- What is known of the frame that is taken for a kind.
 abbrev Shape : ℕ → List ℕ → Option Frame → Type 0
 Shape k ds (Some f) = (k ≡ kind f) × (length ds ≡ length (body (fields f)) → (ds ≡ body (fields f)) × Fit (fields f))
 Shape k ds None = (f : Frame) → k ≡ kind f → ⊥
 
-shape_of : (k : ℕ) (ds : List ℕ) (f : Frame) (ws : List ℕ) → AllDigits ds → said 2 0 ds ≡ k → k ≡ kind f
+shape_of : (k : ℕ) (ds : List ℕ) (f : Frame) (ws : List ℕ) → AllPass is_digit ds → said 2 0 ds ≡ k → k ≡ kind f
     → (2, kind f) ∷ fields_at 2 ws ds ≡ fields f → 2 + total ws ≡ length (body (fields f)) → Shape k ds (Some f)
 shape_of k ds f ws a e kf same size = (
   kf,
@@ -83,7 +80,7 @@ no_shape k n0 n1 n2 n3 n4 n15 Close e = n3 e
 no_shape k n0 n1 n2 n3 n4 n15 (Access a b) e = n4 e
 no_shape k n0 n1 n2 n3 n4 n15 (End a) e = n15 e
 
-shape : (k : ℕ) (ds : List ℕ) → AllDigits ds → said 2 0 ds ≡ k → Shape k ds (shaped k ds)
+shape : (k : ℕ) (ds : List ℕ) → AllPass is_digit ds → said 2 0 ds ≡ k → Shape k ds (shaped k ds)
 shape k ds a e =
     cond_both (eqb k 0x00) _ _ (Shape k ds) (λ t. shape_of k ds (Header (said 2 2 ds) (said 4 4 ds)) (2 ∷ 4 ∷ []) a e (eqb-true k 0x00 t) refl refl)
     (λ n0. cond_both (eqb k 0x01) _ _ (Shape k ds) (λ t. shape_of k ds OpenTask [] a e (eqb-true k 0x01 t) refl refl)
@@ -101,7 +98,7 @@ Framed ds (Err NoLine) = ⊥
 Framed ds (Err UnknownKind) = (f : Frame) → OfKind ds f → ⊥
 Framed ds (Err WrongLength) = (g : Frame) × OfKind ds g × ((f : Frame) → OfKind ds f → length ds ≡ length (body (fields f)) → ⊥)
 
-sized_right : (ds : List ℕ) (o : Option Frame) → AllDigits ds → 2 ≤ length ds → Shape (said 2 0 ds) ds o → Framed ds (sized ds o)
+sized_right : (ds : List ℕ) (o : Option Frame) → AllPass is_digit ds → 2 ≤ length ds → Shape (said 2 0 ds) ds o → Framed ds (sized ds o)
 sized_right ds (Some g) a h s =
     cond_both (eqb (length ds) (length (body (fields g)))) (Ok g) (Err WrongLength) (Framed ds)
     (λ t. s.1 (eqb-true (length ds) (length (body (fields g))) t))
@@ -109,11 +106,11 @@ sized_right ds (Some g) a h s =
       g,
       kind_back ds g a h s.0,
       λ f same long.
-          eqb-false (length ds) (length (body (fields g))) n (long ∙ size_right f ∙ ap size_of (sym (kind_same ds f same) ∙ s.0) ∙ sym (size_right g)),
+          eqb-false (length ds) (length (body (fields g))) n (long ∙ (kind_right f).1 ∙ ap size_of (sym (kind_same ds f same) ∙ s.0) ∙ sym ((kind_right g).1)),
     ))
 sized_right ds None a h s = λ f same. s f (kind_same ds f same)
 
-pub framed_right : (ds : List ℕ) → AllDigits ds → 2 ≤ length ds → Framed ds (framed ds)
+pub framed_right : (ds : List ℕ) → AllPass is_digit ds → 2 ≤ length ds → Framed ds (framed ds)
 framed_right ds a h = sized_right ds (shaped (said 2 0 ds) ds) a h (shape (said 2 0 ds) ds a refl)
 
 -- a frame as it is written is read as that frame
@@ -131,3 +128,10 @@ framed_back (Access a b) h =
     ap (λ (x : ℕ). taken_as (Access x (number (digits 4 b)))) (number_digits 2 a h.1.0)
     ∙ ap (λ (x : ℕ). taken_as (Access a x)) (number_digits 4 b h.1.1.0)
 framed_back (End a) h = ap (λ (x : ℕ). taken_as (End x)) (number_digits 8 a h.1.0)
+
+-- digits of no kind are refused
+none_shaped : (k : ℕ) (ds : List ℕ) → ((kind : Kind) → number_of kind ≢ k) → shaped k ds ≡ None
+none_shaped k ds none = grind (arith, nat_tests, none kinds.Header, none kinds.OpenTask, none kinds.OpenFinish, none kinds.Close, none kinds.Access, none kinds.End)
+
+pub unknown_framed : (ds : List ℕ) → ((kind : Kind) → number_of kind ≢ said 2 0 ds) → framed ds ≡ Err UnknownKind
+unknown_framed ds none = ap (sized ds) (none_shaped (said 2 0 ds) ds none)

@@ -1,5 +1,5 @@
 -- Digits, and the numbers that they say. Numbers stand most significant digit first.
-use Rattle.std.specs.Prelude.{◌≡◌, ℕ, zero, suc, ◌+◌, ◌-◌, ◌*◌, ◌/◌, ◌%◌, ◌^◌, Bool, true, cond, ◌&&◌, List, [], ◌∷◌, length, take, drop, is_some, Some, None, Option, nat_le, nat_lt}
+use Rattle.std.specs.Prelude.{ℕ, zero, suc, ◌+◌, ◌-◌, ◌*◌, ◌/◌, ◌%◌, ◌^◌, Bool, cond, ◌&&◌, List, [], ◌∷◌, length, take, drop, is_some, Some, None, Option, nat_le, nat_lt}
 
 -- the character of a digit: 0 to 9, then A to F
 abbrev pub digit_for : ℕ → ℕ
@@ -32,7 +32,3 @@ number (d ∷ ds) = value d * 16 ^ length ds + number ds
 -- the number that w digits say from a place on
 abbrev pub said : ℕ → ℕ → List ℕ → ℕ
 said w from ds = number (take w (drop from ds))
-
-abbrev pub AllDigits : List ℕ → Type 0
-AllDigits [] = Unit {0}
-AllDigits (d ∷ ds) = (is_digit d ≡ true) × AllDigits ds

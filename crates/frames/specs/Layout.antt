@@ -1,5 +1,6 @@
 -- What lines look like: those of frames, and those of a clash, a verdict and a refusal.
 use Rattle.std.specs.Prelude.{ℕ, ◌^◌, ◌<◌, List, [], ◌∷◌, ◌++◌}
+use Rattle.std.specs.List.{flat_map}
 use Rattle.frames.specs.declared.words.Frame.{Frame}
 use Rattle.frames.specs.declared.words.Frame.TheVariants.{Header, OpenTask, OpenFinish, Close, Access, End}
 use Rattle.frames.specs.Digits.{digits}
@@ -10,8 +11,7 @@ Field = ℕ × ℕ
 
 -- the digits of fields, one field behind the other
 abbrev pub body : List Field → List ℕ
-body [] = []
-body (f ∷ fs) = digits f.0 f.1 ++ body fs
+body fs = flat_map (λ (f : Field). digits f.0 f.1) fs
 
 -- a line: the digits of its fields, then byte 10
 abbrev pub line_of : List Field → List ℕ

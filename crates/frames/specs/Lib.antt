@@ -1,5 +1,6 @@
 pub mod Codes
 pub mod Digits
+pub mod Kinds
 pub mod Layout
 pub mod Lines
 pub mod Putting

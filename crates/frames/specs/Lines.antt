@@ -1,16 +1,17 @@
 -- What a line is, and where each answer of reading one comes.
 use Rattle.std.specs.Prelude.{◌≡◌, ℕ, ◌%◌, ◌<◌, ◌↔◌, List, ◌∷◌, ◌++◌, length, take, Ok, Err, Result, ◌≢◌}
+use Rattle.std.specs.List.{AllPass}
 use Rattle.frames.specs.declared.words.Frame.{Frame}
 use Rattle.frames.specs.declared.words.LineFault.{LineFault}
 use Rattle.frames.specs.declared.words.LineFault.TheVariants.{NoLine, UnknownKind, WrongLength}
-use Rattle.frames.specs.Digits.{AllDigits}
+use Rattle.frames.specs.Digits.{is_digit}
 use Rattle.frames.specs.Layout.{Fit, fields, body, written}
 
 -- the bytes begin with a line of these digits: some, an even number, and byte 10 behind them
 pub record Line (bytes ds : List ℕ) : Type 0 where
   pub rest : List ℕ
   pub begins : bytes ≡ ds ++ 10 ∷ rest
-  pub all : AllDigits ds
+  pub all : AllPass is_digit ds
   pub some : 0 < length ds
   pub even : length ds % 2 ≡ 0
 

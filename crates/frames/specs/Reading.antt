@@ -1,5 +1,6 @@
 -- What reading a line answers, as a computation. `Judged` says that it is right.
-use Rattle.std.specs.Prelude.{ℕ, suc, ◌+◌, ◌%◌, ◌<◌, ◌≤◌, Bool, cond, ◌&&◌, List, [], ◌∷◌, length, take, Some, None, Ok, Err, Option, Result, ◌==◌, nat_lt, slice_index}
+use Rattle.std.specs.Prelude.{ℕ, ◌+◌, ◌%◌, ◌<◌, ◌≤◌, Bool, cond, ◌&&◌, List, length, take, Some, None, Ok, Err, Option, Result, ◌==◌, nat_lt, slice_index}
+use Rattle.std.specs.List.{prefix_len}
 use Rattle.frames.specs.declared.words.Frame.{Frame}
 use Rattle.frames.specs.declared.words.Frame.TheVariants.{Header, OpenTask, OpenFinish, Close, Access, End}
 use Rattle.frames.specs.declared.words.LineFault.{LineFault}
@@ -9,8 +10,7 @@ use Rattle.frames.specs.Layout.{fields, body}
 
 -- how many digits the bytes begin with
 abbrev pub run : List ℕ → ℕ
-run [] = 0
-run (b ∷ bytes) = cond (is_digit b) (suc (run bytes)) 0
+run bytes = prefix_len is_digit bytes
 
 -- n digits are those of a line: some, an even number, and byte 10 behind them
 abbrev pub whole : ℕ → List ℕ → Bool

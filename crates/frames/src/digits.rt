@@ -1,9 +1,9 @@
 //! Digits, and the numbers that they say, most significant digit first.
-ghost use Rattle.std.specs.Prelude.{◌≡◌, ◌+◌, ◌^◌, ◌<◌, ◌≤◌, ◌++◌, length, take, drop};
-ghost use Rattle.frames.specs.Digits.{digit_of, is_digit, value, said, digit_for, digits};
+ghost use Rattle.std.specs.Prelude.{◌≡◌, ◌^◌, ◌<◌, ◌≤◌, length};
+ghost use Rattle.frames.specs.Digits.{digit_of, is_digit, value, number, digit_for, digits};
 
-// The value of a digit: none of another character.
-fn digit(byte: u8) -> Option<u8>
+/// The value of a digit: none of another character.
+pub fn digit(byte: u8) -> Option<u8>
     ensures { result ≡ digit_of byte }
 {
     match byte as char {
@@ -13,7 +13,7 @@ fn digit(byte: u8) -> Option<u8>
     }
 }
 
-pub fn is_digit(byte: u8) -> bool
+pub(crate) fn is_digit(byte: u8) -> bool
     ensures { result ≡ is_digit byte }
 {
     digit(byte).is_some()
@@ -27,26 +27,18 @@ fn digit_value(byte: u8) -> u8
     digit(byte).unwrap_or(0)
 }
 
-/// The number that two digits say from a place on.
-pub fn two_digits(digits: &[u8], at: usize) -> u8
-    requires { at + 2 ≤ length digits.now }
-    ensures { result ≡ said 2 at digits.now }
+/// The number that digits say.
+#[tactic(auto, using(crate::proofs::Numbers::digit_more, crate::proofs::Numbers::part_lt))]
+pub(crate) fn number(digits: &[u8]) -> u32
+    requires { length digits.now ≤ 8 }
+    ensures said { result ≡ number digits.now }
+    ensures fits { result < 16 ^ length digits.now }
 {
-    digit_value(digits[at]) * 16 + digit_value(digits[at + 1])
-}
-
-pub fn four_digits(digits: &[u8], at: usize) -> u16
-    requires { at + 4 ≤ length digits.now }
-    ensures { result ≡ said 4 at digits.now }
-{
-    two_digits(digits, at) as u16 * 0x100 + two_digits(digits, at + 2) as u16
-}
-
-pub fn eight_digits(digits: &[u8], at: usize) -> u32
-    requires { at + 8 ≤ length digits.now }
-    ensures { result ≡ said 8 at digits.now }
-{
-    four_digits(digits, at) as u32 * 0x10000 + four_digits(digits, at + 4) as u32
+    let mut number = 0;
+    for &digit in digits {
+        number = number * 16 + digit_value(digit) as u32;
+    }
+    number
 }
 
 // The character of a digit.
@@ -61,17 +53,17 @@ fn digit_char(value: u8) -> u8
     }
 }
 
-/// Writes the digits of a number from a place on, and tells the place behind them.
-pub fn put_digits(buffer: &mut [u8], at: usize, width: usize, number: u32) -> usize
-    requires room { at + width ≤ length buffer.old }
-    requires fits { number < 16 ^ width }
-    ensures behind { result ≡ at + width }
-    ensures buffer { buffer.new ≡ take at buffer.old ++ (digits width number ++ drop (at + width) buffer.old) }
+/// Writes a number by as many digits as the field has room for.
+#[tactic(auto, using(crate::proofs::Buffers::digit_put, crate::proofs::Buffers::rest_fits))]
+pub(crate) fn put_digits(field: &mut [u8], number: u32)
+    requires { number < 16 ^ length field.old }
+    ensures { field.new ≡ digits (length field.old) number }
 {
+    // The last digit first, and then all turned round: no proof knows what is written through `iter_mut().rev()`.
     let mut rest = number;
-    for i in (0..width).rev() {
-        buffer[at + i] = digit_char((rest % 16) as u8);
+    for digit in field.iter_mut() {
+        *digit = digit_char((rest % 16) as u8);
         rest /= 16;
     }
-    at + width
+    field.reverse();
 }

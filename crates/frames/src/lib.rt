@@ -2,12 +2,14 @@
 #![tactic(auto)]
 
 mod digits;
+mod kind;
 mod reading;
 #[cfg(test)]
 mod tests;
 mod words;
 mod writing;
 
+pub use digits::digit;
 pub use reading::read_line;
 pub use words::{Frame, LineFault, ShortBuffer};
 pub use writing::{LINE_ROOM, put_clash, put_refusal, put_verdict};

@@ -1,9 +1,13 @@
 //! What a line says, and why one is refused.
-ghost use Rattle.std.specs.Prelude.{◌≡◌};
-ghost use Rattle.frames.specs.Codes.{fault_code, short_code};
+ghost use Rattle.std.specs.Prelude.{◌≡◌, Some};
+ghost use Rattle.frames.specs.Codes.{fault_code, fault_text, short_code, short_text};
+
+use refusals::{Code, Layer};
+use std::error::Error;
+use std::fmt;
 
 /// What a line says.
-#[derive(Clone, Copy)]
+#[derive(Clone, Copy, Debug, PartialEq, Eq)]
 pub enum Frame {
     Header { rule: u8, records: u16 },
     OpenTask,
@@ -15,7 +19,7 @@ pub enum Frame {
 }
 
 /// Why a line is refused.
-#[derive(Clone, Copy)]
+#[derive(Clone, Copy, Debug, PartialEq, Eq)]
 pub enum LineFault {
     /// Another character, no digits, an odd number of digits, or no byte 10 before the bytes end.
     NoLine,
@@ -26,27 +30,53 @@ pub enum LineFault {
 }
 
 impl LineFault {
-    /// The number of the refusal, and the layer that refuses.
-    pub fn code(self) -> (u8, u8)
+    pub fn code(self) -> Code
         ensures { result ≡ fault_code self }
     {
-        match self {
-            LineFault::NoLine => (1, 1),
-            LineFault::UnknownKind => (2, 2),
-            LineFault::WrongLength => (3, 2),
+        let (number, layer) = match self {
+            LineFault::NoLine => (1, Layer::Line),
+            LineFault::UnknownKind => (2, Layer::Frame),
+            LineFault::WrongLength => (3, Layer::Frame),
+        };
+        Code { number, layer }
+    }
+}
+
+impl fmt::Display for LineFault {
+    ghost output = { λ fault. Some (fault_text fault) };
+
+    fn fmt<W: fmt::Write>(&self, f: &mut fmt::Formatter<W>) -> fmt::Result {
+        f.write_str(match self {
+            LineFault::NoLine => "no line of digits",
+            LineFault::UnknownKind => "no kind of frame",
+            LineFault::WrongLength => "another number of digits than the kind has",
+        })
+    }
+}
+
+impl Error for LineFault {}
+
+/// The buffer for a line is too short.
+#[derive(Clone, Copy, Debug, PartialEq, Eq)]
+pub struct ShortBuffer;
+
+impl ShortBuffer {
+    pub fn code(self) -> Code
+        ensures { result ≡ short_code }
+    {
+        Code {
+            number: 11,
+            layer: Layer::Frame,
         }
     }
 }
 
-/// The buffer for a line is too short.
-#[derive(Clone, Copy)]
-pub struct ShortBuffer {}
+impl fmt::Display for ShortBuffer {
+    ghost output = { λ _. Some short_text };
 
-impl ShortBuffer {
-    /// The number of the refusal, and the layer that refuses.
-    pub fn code(self) -> (u8, u8)
-        ensures { result ≡ short_code }
-    {
-        (11, 2)
+    fn fmt<W: fmt::Write>(&self, f: &mut fmt::Formatter<W>) -> fmt::Result {
+        f.write_str("a buffer too short for a line")
     }
 }
+
+impl Error for ShortBuffer {}

@@ -15,7 +15,7 @@ use Rattle.orderings.proofs.Pours.{Moved}
 use Rattle.orderings.proofs.Places.{place_serial, place_parallel, spot_in}
 use Rattle.orderings.specs.Props.{task_finish}
 use Rattle.orderings.specs.Formation.{scopes_of}
-use Rattle.orderings.proofs.Scopes.{innermost_is, innermost_task_is, within_task}
+use Rattle.orderings.proofs.Framed.{innermost_is, innermost_task_is, within_task}
 use Rattle.orderings.proofs.Closes.{not_main, outer_low, split}
 
 -- which bags move to q where the scope s closes

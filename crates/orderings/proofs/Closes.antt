@@ -8,7 +8,7 @@ use Rattle.orderings.proofs.Chains.{chain_split, each_first}
 use Rattle.orderings.specs.Chains.{chain_main}
 use Rattle.orderings.proofs.Merges.{Merged, merged_keeps, merged_more, link_merges}
 use Rattle.orderings.proofs.Pours.{Moved, head_test, moved_none, moved}
-use Rattle.orderings.proofs.Scopes.{each_within}
+use Rattle.orderings.proofs.Framed.{each_within}
 
 -- the root of a scope's bags linked
 abbrev pub own_root : Contents → ℕ → ℕ

@@ -10,7 +10,7 @@ use Rattle.orderings.specs.Bags.{meaning_of}
 use Rattle.orderings.specs.Sound.{Sound, Closable}
 use Rattle.orderings.proofs.Forests.{rank_low}
 use Rattle.orderings.proofs.Pours.{Moved}
-use Rattle.orderings.proofs.Scopes.{cases_kind, within_task}
+use Rattle.orderings.proofs.Framed.{cases_kind, within_task}
 use Rattle.orderings.proofs.Closes.{outer_low, live_serial, live_parallel, live_outer, live_task, own_root, task_links, finish_empty, finish_moves, task_moves}
 use Rattle.orderings.proofs.Closed.{Goes, goes_task, goes_finish, sound_closed, answer_closed, meaning_closed}
 

@@ -1,13 +1,14 @@
 -- Frames with a scope more.
-use Rattle.std.proofs.Common.{◌≡◌, ℕ, ◌+◌, ◌<◌, ◌≢◌, ◌⊎◌, List, ◌∷◌, sym, ap, ◌∙◌, subst, ⊎_elim, add-one, arith}
+use Rattle.std.proofs.Common.{◌≡◌, ℕ, ◌+◌, ◌<◌, ◌≢◌, List, ◌∷◌, sym, ap, ◌∙◌, subst, ⊎_elim, add-one, arith}
 use Rattle.std.proofs.lemmas.Bool.{cases_lt}
 use Rattle.orderings.specs.declared.words.Kind.{Kind}
 use Rattle.orderings.specs.declared.words.Kind.TheVariants.{Task, Finish}
 use Rattle.orderings.specs.Store.{Frames, chain}
 use Rattle.orderings.specs.Sound.{Framed}
+use Rattle.orderings.specs.Scopes.{task_within}
 use Rattle.orderings.specs.Chains.{chain_more}
 use Rattle.orderings.proofs.Chains.{chain_agree, chain_steady}
-use Rattle.orderings.proofs.Scopes.{outer}
+use Rattle.orderings.proofs.Framed.{outer}
 
 -- frames with a scope n more, of kind k and within the scope s
 pub record FramedMore (fr gr : Frames) (n s : ℕ) (k : Kind) : Type 0 where
@@ -16,12 +17,7 @@ pub record FramedMore (fr gr : Frames) (n s : ℕ) (k : Kind) : Type 0 where
   pub withins : (i : ℕ) → i < n → gr.within i ≡ fr.within i
   pub new_kind : gr.kind n ≡ k
   pub new_outward : gr.outward n ≡ s
-  pub new_task : k ≡ Task → gr.within n ≡ n
-  pub new_finish : k ≡ Finish → gr.within n ≡ fr.within s
-
--- the innermost task of the new scope is w
-abbrev pub Within : Frames → Kind → ℕ → ℕ → ℕ → Type 0
-Within fr k n s w = ((k ≡ Task) × (w ≡ n)) ⊎ ((k ≡ Finish) × (w ≡ fr.within s))
+  pub new_within : gr.within n ≡ task_within k n (fr.within s)
 
 -- a fact of the old numbers and of the new one
 pub each : {P : ℕ → Type 0} (n : ℕ) → ((i : ℕ) → i < n → P i) → P n → (i : ℕ) → i < n + 1 → P i
@@ -38,13 +34,13 @@ module _ (fr gr : Frames) (n s : ℕ) (k : Kind) (w : Framed fr n) (inside : s <
     own =
         each {P = λ i. gr.kind i ≡ Task → gr.within i ≡ i} n
         (λ i l e. F.withins i l ∙ w.own i l (sym (F.kinds i l) ∙ e))
-        (λ e. F.new_task (sym F.new_kind ∙ e));
+        (λ e. F.new_within ∙ ap (λ (j : Kind). task_within j n (fr.within s)) (sym F.new_kind ∙ e));
     lent =
         each {P = λ i. gr.kind i ≡ Finish → gr.within i ≡ gr.within (gr.outward i)} n
         (λ i l e. let was : fr.kind i ≡ Finish = sym (F.kinds i l) ∙ e in
         let low = (outer fr n w i l was).1 in
         F.withins i l ∙ w.lent i l was ∙ sym (ap gr.within (F.outwards i l) ∙ F.withins (fr.outward i) (omega arith)))
-        (λ e. F.new_finish (sym F.new_kind ∙ e) ∙ sym (ap gr.within F.new_outward ∙ F.withins s inside));
+        (λ e. F.new_within ∙ ap (λ (j : Kind). task_within j n (fr.within s)) (sym F.new_kind ∙ e) ∙ sym (ap gr.within F.new_outward ∙ F.withins s inside));
   }
 
   pub new_first : chain gr.outward (n + 1) n ≡ n ∷ chain gr.outward n s

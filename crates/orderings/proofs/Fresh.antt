@@ -1,16 +1,16 @@
 -- The entries after an open.
-use Rattle.std.proofs.Common.{◌≡◌, ℕ, ◌+◌, ◌*◌, ◌<◌, ◌≤◌, List, length, set, sym, refl, ap, ◌∙◌, subst, ⊎_elim, arith}
+use Rattle.std.proofs.Common.{◌≡◌, ℕ, ◌+◌, ◌*◌, ◌/◌, ◌<◌, ◌≤◌, cond, eqb, List, length, set, sym, ap, ◌∙◌, subst, arith}
+use Rattle.std.proofs.lemmas.Bool.{ne_eqb, cond-false}
 use Rattle.orderings.specs.declared.words.Kind.{Kind}
 use Rattle.orderings.specs.declared.bags.entry.Entry.{Entry}
-use Rattle.orderings.specs.Forest.{upd}
-use Rattle.orderings.specs.Store.{frames, head, contents}
+use Rattle.orderings.specs.Store.{empty, frames, head_of, head, contents}
 use Rattle.orderings.specs.Meaning.{with_scope}
 use Rattle.orderings.specs.Bags.{meaning_of}
 use Rattle.orderings.specs.Sound.{Sound}
-use Rattle.orderings.proofs.Sums.{upd_same, upd_other}
-use Rattle.orderings.proofs.Entries.{here, there, contents_set}
-use Rattle.orderings.specs.Props.{task_finish}
-use Rattle.orderings.proofs.FramedMore.{FramedMore, Within}
+use Rattle.orderings.specs.Scopes.{task_within}
+use Rattle.orderings.proofs.Entries.{contents_set, head_serial, head_parallel}
+use Rattle.orderings.proofs.Tables.{here, there}
+use Rattle.orderings.proofs.FramedMore.{FramedMore}
 use Rattle.orderings.proofs.Opens.{FilledMore, sound_new, meaning_new}
 
 -- the entry of a new scope n
@@ -18,36 +18,35 @@ abbrev pub fresh : Kind → ℕ → ℕ → ℕ → Entry
 fresh k n out within = record { kind = k; rank = 0; parent = n; bag = 2 * n; outward = out; within = within; serial = n; parallel = 0 }
 
 module _ (es : List Entry) (n s w : ℕ) (k : Kind) (room : n < length es) where
-  framed_more : Within (frames es) k n s w → FramedMore (frames es) (frames (set es n (fresh k n s w))) n s k
+  framed_more : w ≡ task_within k n ((frames es).within s) → FramedMore (frames es) (frames (set es n (fresh k n s w))) n s k
   framed_more way = record {
-    kinds = λ i l. ap (λ (e : Entry). e.kind) (there es n (fresh k n s w) room i (omega arith));
-    outwards = λ i l. ap (λ (e : Entry). e.outward) (there es n (fresh k n s w) room i (omega arith));
-    withins = λ i l. ap (λ (e : Entry). e.within) (there es n (fresh k n s w) room i (omega arith));
-    new_kind = ap (λ (e : Entry). e.kind) (here es n (fresh k n s w) room);
-    new_outward = ap (λ (e : Entry). e.outward) (here es n (fresh k n s w) room);
-    new_task = λ e. ap (λ (x : Entry). x.within) (here es n (fresh k n s w) room) ∙ ⊎_elim (λ v. v.1) (λ v. absurd (task_finish k e v.0)) way;
-    new_finish = λ e. ap (λ (x : Entry). x.within) (here es n (fresh k n s w) room) ∙ ⊎_elim (λ v. absurd (task_finish k v.0 e)) (λ v. v.1) way;
+    kinds = λ i l. ap (λ (e : Entry). e.kind) (there empty es n (fresh k n s w) room i (omega arith));
+    outwards = λ i l. ap (λ (e : Entry). e.outward) (there empty es n (fresh k n s w) room i (omega arith));
+    withins = λ i l. ap (λ (e : Entry). e.within) (there empty es n (fresh k n s w) room i (omega arith));
+    new_kind = ap (λ (e : Entry). e.kind) (here empty es n (fresh k n s w) room);
+    new_outward = ap (λ (e : Entry). e.outward) (here empty es n (fresh k n s w) room);
+    new_within = ap (λ (e : Entry). e.within) (here empty es n (fresh k n s w) room) ∙ way;
   }
 
   filled_more : FilledMore (contents es) (contents (set es n (fresh k n s w))) n
   filled_more =
       let is = contents_set es n (fresh k n s w) room in
-      let heads : (k : ℕ) → (contents (set es n (fresh _ n s w))).head k ≡ upd (upd (head es) (2 * n) n) (2 * n + 1) 0 k = λ k j. (is j).head k in
+      let heads : (i : ℕ) → (contents (set es n (fresh k n s w))).head i ≡ cond (eqb (i / 2) n) (head_of (fresh k n s w) i) (head es i) = λ i j. (is j).head i in
       record {
         forests = record {
-          parents = λ x l. ap (λ (e : Entry). e.parent) (there es n (fresh k n s w) room x (omega arith));
-          ranks = λ x l. ap (λ (e : Entry). e.rank) (there es n (fresh k n s w) room x (omega arith));
+          parents = λ x l. ap (λ (e : Entry). e.parent) (there empty es n (fresh k n s w) room x (omega arith));
+          ranks = λ x l. ap (λ (e : Entry). e.rank) (there empty es n (fresh k n s w) room x (omega arith));
         };
-        bags = λ x l. ap (λ (e : Entry). e.bag) (there es n (fresh k n s w) room x (omega arith));
-        heads = λ i l. heads i ∙ upd_other (upd (head es) (2 * n) n) (2 * n + 1) 0 i (omega arith) ∙ upd_other (head es) (2 * n) n i (omega arith);
-        new_parent = ap (λ (e : Entry). e.parent) (here es n (fresh k n s w) room);
-        new_rank = ap (λ (e : Entry). e.rank) (here es n (fresh k n s w) room);
-        new_bag = ap (λ (e : Entry). e.bag) (here es n (fresh k n s w) room);
-        new_serial = heads (2 * n) ∙ upd_other (upd (head es) (2 * n) n) (2 * n + 1) 0 (2 * n) (omega arith) ∙ upd_same (head es) (2 * n) n (2 * n) refl;
-        new_parallel = heads (2 * n + 1) ∙ upd_same (upd (head es) (2 * n) n) (2 * n + 1) 0 (2 * n + 1) refl;
+        bags = λ x l. ap (λ (e : Entry). e.bag) (there empty es n (fresh k n s w) room x (omega arith));
+        heads = λ i l. heads i ∙ cond-false (eqb (i / 2) n) _ _ (ne_eqb (i / 2) n (omega arith));
+        new_parent = ap (λ (e : Entry). e.parent) (here empty es n (fresh k n s w) room);
+        new_rank = ap (λ (e : Entry). e.rank) (here empty es n (fresh k n s w) room);
+        new_bag = ap (λ (e : Entry). e.bag) (here empty es n (fresh k n s w) room);
+        new_serial = head_serial (set es n (fresh k n s w)) n ∙ ap (λ (e : Entry). e.serial) (here empty es n (fresh k n s w) room);
+        new_parallel = head_parallel (set es n (fresh k n s w)) n ∙ ap (λ (e : Entry). e.parallel) (here empty es n (fresh k n s w) room);
       }
 
-  module _ (count : ℕ) (o : Sound (frames es) (contents es) n s count) (small : n ≤ 65536) (inside : s < n) (way : Within (frames es) k n s w) (us : List Entry) (put : us ≡ set es n (fresh k n s w)) where
+  module _ (count : ℕ) (o : Sound (frames es) (contents es) n s count) (small : n ≤ 65536) (inside : s < n) (way : w ≡ task_within k n ((frames es).within s)) (us : List Entry) (put : us ≡ set es n (fresh k n s w)) where
     pub sound_opened : Sound (frames us) (contents us) (n + 1) n (count + 1)
     sound_opened = subst (λ (l : List Entry). Sound (frames l) (contents l) (n + 1) n (count + 1)) (sym put) (sound_new (frames es) _ (contents es) _ n s count k o small inside (framed_more way) filled_more)
 

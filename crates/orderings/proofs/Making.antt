@@ -1,23 +1,18 @@
 -- Main alone.
-use Rattle.std.proofs.Common.{◌≡◌, ℕ, ◌+◌, ◌*◌, List, ◌∷◌, length, sym, refl, ap, subst, arith}
+use Rattle.std.proofs.Common.{◌+◌, ◌*◌, List, ◌∷◌, length, sym, refl, ap, subst, arith}
 use Rattle.orderings.specs.declared.bags.entry.Entry.{Entry}
 use Rattle.orderings.specs.Store.{empty, frames, contents}
 use Rattle.orderings.specs.Sound.{Live, Each, Sound}
 use Rattle.orderings.proofs.Forests.{grown_main}
 use Rattle.orderings.specs.Chains.{chain_main}
-use Rattle.orderings.specs.Props.{task_finish}
+use Rattle.orderings.proofs.Framed.{framed_main}
 
 pub sound_main : (t : List Entry) → Sound (frames (empty ∷ t)) (contents (empty ∷ t)) 1 0 1
 sound_main t =
     let alone = chain_main (frames (empty ∷ t)).outward 0 0 refl in
     record {
       counted = sym (ap length alone);
-      framed = record {
-        main = refl;
-        inward = λ s l ne. absurd (ne (omega arith));
-        own = λ s l e. let z : 0 ≡ s = omega arith in subst (λ (k : ℕ). (frames (empty ∷ t)).within k ≡ k) z refl;
-        lent = λ s l e. let z : s ≡ 0 = omega arith in absurd (task_finish ((frames (empty ∷ t)).kind s) (ap (frames (empty ∷ t)).kind z) e);
-      };
+      framed = framed_main (frames (empty ∷ t)) refl refl;
       grown = grown_main (contents (empty ∷ t)).forest refl refl;
       numbered = λ x p l. absurd (omega arith);
       heads = λ x p l. absurd (omega arith);

@@ -1,23 +1,26 @@
 -- What scopes in their frames and tasks at their places mean: what is asked of them, and the steps.
-use Rattle.std.proofs.Common.{◌≡◌, ℕ, ◌+◌, ◌-◌, ◌<◌, ◌≤◌, min, false, leb, ◌≢◌, List, [], ◌∷◌, ◌++◌, length, Some, None, Ok, Err, sym, refl, ap, ◌∙◌, ⊎_elim, arith}
+use Rattle.std.proofs.Common.{◌≡◌, ℕ, ◌+◌, ◌-◌, ◌<◌, ◌≤◌, min, false, eqb, leb, ◌≢◌, List, [], ◌∷◌, ◌++◌, length, Some, None, Ok, Err, sym, refl, ap, ◌∙◌, ⊎_elim, arith}
 use mathlib.Core.List.{map-map}
-use Rattle.std.proofs.lemmas.Bool.{cond-true, cond-false, lt-leb, le-leb}
+use Rattle.std.proofs.lemmas.Bool.{ne_eqb, cond-false, lt-leb}
 use Rattle.std.proofs.lemmas.List.{length-map}
 use Rattle.std.proofs.lemmas.List.FromFn.{map-range_with_len_more, length-map-range_with_len}
 use Rattle.std.specs.List.{range_with_len}
 use Rattle.graph.specs.History.{Scope, Place, before, moved, outward}
 use Rattle.orderings.specs.declared.words.Kind.{Kind}
 use Rattle.orderings.specs.declared.words.Kind.TheVariants.{Task, Finish}
-use Rattle.orderings.specs.declared.words.Fault.TheVariants.{NoSuchTask, MainAlone}
-use Rattle.orderings.specs.Meaning.{Meaning, Begun, task_at, scope_as, begun_as, with_scope, shifted, closing, after_close, word, word_of, asked, kind, kind_at}
+use Rattle.orderings.specs.declared.words.Fault.TheVariants.{NoSuchTask}
+use Rattle.orderings.specs.Meaning.{Begun, task_at, new, scope_as, begun_as, with_scope, opening, after_open, shifted, closing, after_close, word, word_of, asked, kind, kind_at}
 use Rattle.orderings.specs.Store.{Frames, chain}
 use Rattle.orderings.specs.Sound.{Framed}
 use Rattle.orderings.specs.Placed.{scopes_begun, placed}
 use Rattle.orderings.specs.Bags.{begun_at}
 use Rattle.orderings.proofs.Chains.{chain_split}
-use Rattle.orderings.proofs.Scopes.{cases_kind, same_counted, at_some, at_none, scopes_agree, innermost_is}
+use Rattle.orderings.proofs.Framed.{cases_kind, same_counted, at_some, at_none, scopes_agree, innermost_is}
 use Rattle.orderings.specs.Formation.{scopes_of}
 use Rattle.orderings.proofs.FramedMore.{FramedMore, new_first}
+
+pub all_begun : (fr : Frames) (place : ℕ → Place) (n : ℕ) → length (scopes_begun fr place n) ≡ n
+all_begun fr place n = length-map-range_with_len (λ x. begun_at (fr.kind x) (place x)) 0 n
 
 module _ (fr : Frames) (place : ℕ → Place) (n t : ℕ) where
   pub asked_none : n ≤ t → asked (scopes_begun fr place n) t ≡ Err NoSuchTask
@@ -45,7 +48,7 @@ pub placed_open :
     → ((i : ℕ) → i < n → place' i ≡ place i) → place' n ≡ before n
     → placed gr place' cap (n + 1) n ≡ with_scope k (placed fr place cap n s)
 placed_open fr gr place place' cap n s k w inside F stay own =
-    let len : n ≡ length (scopes_begun fr place n) = sym (length-map-range_with_len (λ x. begun_at (fr.kind x) (place x)) 0 n) in
+    let len = sym (all_begun fr place n) in
     let opened-same = ap (scopes_of gr) (new_first fr gr n s k w inside F) ∙ (λ j. scope_as (F.new_kind j) (len j) ∷ scopes_agree fr n w gr F.kinds F.outwards n s inside j) in
     let begun-same =
     map-range_with_len_more (λ x. begun_at (gr.kind x) (place' x)) 0 n n (omega arith)
@@ -58,9 +61,18 @@ placed_open fr gr place place' cap n s k w inside F stay own =
     fresh Task = refl
     fresh Finish = refl
 
--- with main alone a close is refused
-pub closing_alone : (m : Meaning) → length m.opened ≤ 1 → (closing m ≡ Err MainAlone) × (after_close m ≡ m)
-closing_alone m l = let e = le-leb (length m.opened) 1 l in (cond-true (leb (length m.opened) 1) _ _ e, cond-true (leb (length m.opened) 1) _ _ e)
+-- main alone is a new ordering
+pub placed_main : (fr : Frames) (place : ℕ → Place) (cap : ℕ) → fr.kind 0 ≡ Task → place 0 ≡ before 0 → placed fr place cap 1 0 ≡ new (min cap 65535)
+unfolding chain
+placed_main fr place cap is-task at-main = let left_is : min cap 65535 + 1 - 1 ≡ min cap 65535 = omega arith in λ j. record { opened = scope_as (is-task j) 0 ∷ []; begun = begun_at (is-task j) (at-main j) ∷ []; left = left_is j }
+
+-- with a number left an open gives the next
+pub opening_placed : (fr : Frames) (place : ℕ → Place) (cap n s : ℕ) (k : Kind) → n ≤ min cap 65535 → (opening (placed fr place cap n s) ≡ Ok n) × (after_open k (placed fr place cap n s) ≡ with_scope k (placed fr place cap n s))
+opening_placed fr place cap n s k free =
+    let some = ne_eqb (min cap 65535 + 1 - n) 0 (omega arith) in (
+      cond-false (eqb (min cap 65535 + 1 - n) 0) _ _ some ∙ ap (λ (j : ℕ). Ok j) (all_begun fr place n),
+      cond-false (eqb (min cap 65535 + 1 - n) 0) _ _ some,
+    )
 
 -- the step of a close of the scope s: each task moves as the meaning says
 module _ (fr : Frames) (place : ℕ → Place) (cap n s : ℕ) (w : Framed fr n) (inside : s < n) (more : 1 < length (chain fr.outward n s)) where

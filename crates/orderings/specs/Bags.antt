@@ -7,7 +7,8 @@ use Rattle.orderings.specs.declared.words.Kind.TheVariants.{Task, Finish}
 use Rattle.orderings.specs.declared.bags.Bags.{Bags}
 use Rattle.orderings.specs.Meaning.{Meaning, Begun, task_at, a_finish, scope_as}
 use Rattle.orderings.specs.Forest.{root}
-use Rattle.orderings.specs.Store.{entries, Frames, frames, Contents, contents, chain}
+use Rattle.orderings.specs.Store.{Frames, frames, Contents, contents, chain}
+use Rattle.orderings.specs.Table.{entries}
 
 -- the place that the number of a bag says: an S bag is before, a P bag unordered
 abbrev pub place_in : ℕ → Place
@@ -29,4 +30,4 @@ meaning_of fr c cap begun inner = record {
 }
 
 abbrev pub meaning : Bags → Meaning
-meaning b = meaning_of (frames (entries b.store)) (contents (entries b.store)) (length b.store.table.now) b.begun b.inner
+meaning b = meaning_of (frames (entries b.store)) (contents (entries b.store)) (length b.store.lent.now) b.scopes.begun b.scopes.inner

@@ -8,7 +8,8 @@ use Rattle.orderings.specs.declared.words.Kind.{Kind}
 use Rattle.orderings.specs.declared.words.Kind.TheVariants.{Task, Finish}
 use Rattle.orderings.specs.declared.bags.Bags.{Bags}
 use Rattle.orderings.specs.Meaning.{Begun, task_at, scope_as, Fall, WellFormed}
-use Rattle.orderings.specs.Store.{Frames, frames, entries, contents, chain}
+use Rattle.orderings.specs.Store.{Frames, frames, contents, chain}
+use Rattle.orderings.specs.Table.{entries}
 use Rattle.orderings.specs.Sound.{Framed}
 use Rattle.orderings.specs.Bags.{place_of, begun_at, meaning}
 use Rattle.orderings.specs.Placed.{scopes_begun, placed}
@@ -59,4 +60,4 @@ formed_placed fr place cap n s w l at-main = record {
         (rest, λ j. begun_at (w.main j) (at-main j) ∷ rest)
 
 pub formed_bags : (b : Bags) → WellFormed (meaning b)
-formed_bags b = formed_placed (frames (entries b.store)) (place_of (contents (entries b.store))) _ b.begun b.inner (reveal b.sound).framed b.innermost refl
+formed_bags b = formed_placed (frames (entries b.store)) (place_of (contents (entries b.store))) _ b.scopes.begun b.scopes.inner (reveal b.sound).framed b.scopes.innermost refl

@@ -12,3 +12,5 @@ pub mod Placed
 pub mod Formation
 pub mod Chains
 pub mod Props
+pub mod Scopes
+pub mod Table

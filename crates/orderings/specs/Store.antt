@@ -3,11 +3,7 @@ use Rattle.std.specs.Prelude.{ℕ, zero, suc, ◌+◌, ◌*◌, ◌/◌, ◌%◌
 use Rattle.orderings.specs.declared.words.Kind.{Kind}
 use Rattle.orderings.specs.declared.words.Kind.TheVariants.{Task, Finish}
 use Rattle.orderings.specs.declared.bags.entry.Entry.{Entry}
-use Rattle.orderings.specs.declared.bags.store.Store.{Store}
 use Rattle.orderings.specs.Forest.{Forest, upd, winner, linked}
-
-abbrev pub entries : Store → List Entry
-entries s = s.main ∷ s.table.now
 
 -- an entry that holds no scope yet
 abbrev pub empty : Entry
@@ -35,8 +31,15 @@ abbrev pub forest : List Entry → Forest
 forest es = record { parent = λ x. (entry_at es x).parent; rank = λ x. (entry_at es x).rank }
 
 -- the S bag of scope s is number 2 s, its P bag 2 s + 1
+abbrev pub head_of : Entry → ℕ → ℕ
+head_of e k = cond (k % 2 == 0) e.serial e.parallel
+
 abbrev pub head : List Entry → ℕ → ℕ
-head es k = cond (k % 2 == 0) (entry_at es (k / 2)).serial (entry_at es (k / 2)).parallel
+head es k = head_of (entry_at es (k / 2)) k
+
+-- the entry of a scope with v as the root of its bag k
+abbrev pub with_head : ℕ → ℕ → Entry → Entry
+with_head k v e = record e { serial = cond (k % 2 == 0) v e.serial; parallel = cond (k % 2 == 0) e.parallel v }
 
 abbrev pub contents : List Entry → Contents
 contents es = record { forest = forest es; bag = λ x. (entry_at es x).bag; head = head es }

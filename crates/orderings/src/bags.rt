@@ -1,9 +1,11 @@
 //! The bags: an ordering on a table lent by the caller.
-ghost use Rattle.std.specs.Prelude.{◌+◌, ◌<◌, ◌≤◌, length};
-ghost use Rattle.orderings.specs.Store.{entries, frames, contents};
+ghost use Rattle.std.specs.Prelude.{◌≡◌, min, length};
+ghost use Rattle.orderings.specs.Store.{frames, contents};
+ghost use Rattle.orderings.specs.Table.{entries};
 ghost use Rattle.orderings.specs.Sound.{Sound};
 
-use crate::bags::store::Store;
+use crate::scopes::Scopes;
+use crate::table::Table;
 
 mod calls;
 mod entry;
@@ -16,17 +18,8 @@ pub use entry::Entry;
 /// with it. A bag is a tree of a forest, linked by rank.
 #[derive(Drop)]
 pub struct Bags<'t> {
-    store: Store<'t>,
-    /// How many scopes were begun, main counted.
-    begun: u32,
-    /// The innermost open scope.
-    inner: u32,
-    /// How many scopes are open, main counted.
-    count: u32,
-    ghost some: { 0 < count },
-    ghost fewer: { count ≤ begun },
-    ghost room: { begun ≤ length store.table.now + 1 },
-    ghost few: { begun ≤ 65536 },
-    ghost innermost: { inner < begun },
-    ghost sound: { ∥ Sound (frames (entries store)) (contents (entries store)) begun inner count ∥₁ },
+    store: Table<'t, Entry>,
+    scopes: Scopes,
+    ghost numbers: { scopes.numbers ≡ min (length store.lent.now) 65535 },
+    ghost sound: { ∥ Sound (frames (entries store)) (contents (entries store)) scopes.begun scopes.inner scopes.count ∥₁ },
 }

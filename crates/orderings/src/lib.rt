@@ -6,6 +6,8 @@ mod exchange;
 mod inquiries;
 mod ordering;
 mod questions;
+mod scopes;
+mod table;
 mod words;
 
 pub use bags::{Bags, Entry};
@@ -13,4 +15,6 @@ pub use exchange::Exchange;
 pub use inquiries::{Inquiry, Request, Response, inquire, put};
 pub use ordering::Ordering;
 pub use questions::{Question, Told, tell};
+pub use scopes::Scopes;
+pub use table::Table;
 pub use words::{Fault, Kind, Word};

@@ -8,6 +8,7 @@ use crate::words::{Fault, Kind, Word};
 /// An ordering is told of opens and closes, and says of each task whether it is before or unordered. What it means is the
 /// ghost member `meaning`; what a call promises, it promises of a sound store, and each call keeps a sound store sound.
 /// A refused call leaves the very store as it was.
+// Each ordering says which of its stores are sound: so soundness is no invariant of a type, and stands in the clauses.
 pub trait Ordering {
     /// Which stores are sound.
     ghost sound: { Self → Type 0 };

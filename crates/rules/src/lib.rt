@@ -198,6 +198,7 @@ impl fmt::Display for Rule {
     }
 }
 
+// By a `match` in each call: a function that handed out the rule held, as a `dyn`, would be refused.
 impl ClashRule for Rule {
     ghost number = { number_of };
 

@@ -3,10 +3,10 @@ use Rattle.std.proofs.Common.{◌≡◌, ℕ, ◌+◌, ◌<◌, ◌-◌, Bool, t
 use Rattle.std.specs.List.{prefix_len}
 use Rattle.std.proofs.lemmas.List.{nil_from_length, drop_more, drop-drop, get_or-drop}
 use Rattle.std.proofs.lemmas.List.Sums.{prefix_len_stops}
+use Rattle.shorthand.specs.declared.reader.Reader.{Reader}
 use Rattle.shorthand.specs.declared.words.Action.{Action}
 use Rattle.shorthand.specs.declared.words.Misread.{Misread}
 use Rattle.shorthand.specs.Actions.{action_at}
-use Rattle.shorthand.specs.declared.reader.Reader.{Reader}
 use Rattle.shorthand.specs.Reader.{left, first, rest, StandsAt}
 use Rattle.shorthand.specs.Reading.{is_blank, named, heading, Reading, said}
 use Rattle.shorthand.proofs.Said.{ahead, step_blank, step_action, step_wrong}
@@ -16,7 +16,7 @@ past : {X : Type 0} (F : ℕ → List ℕ → X) (at c n : ℕ) (l : List ℕ) �
 past F at c n l = rw (add_assoc, one-add)
 
 -- the rule's name is sought behind the blanks
-pub heading_past : (at : ℕ) (l : List ℕ) → heading at l ≡ named (at + prefix_len is_blank l) (drop (prefix_len is_blank l) l)
+heading_past : (at : ℕ) (l : List ℕ) → heading at l ≡ named (at + prefix_len is_blank l) (drop (prefix_len is_blank l) l)
 heading_past at [] = rw add-zero
 heading_past at (c ∷ l) =
     let n = prefix_len is_blank l in
@@ -24,7 +24,7 @@ heading_past at (c ∷ l) =
     [ true ↦ heading_past (at + 1) l ∙ past named at c n l | false ↦ rw add-zero ]
 
 -- and so are the actions
-pub said_past : (at : ℕ) (l : List ℕ) → said at at l ≡ said (at + prefix_len is_blank l) (at + prefix_len is_blank l) (drop (prefix_len is_blank l) l)
+said_past : (at : ℕ) (l : List ℕ) → said at at l ≡ said (at + prefix_len is_blank l) (at + prefix_len is_blank l) (drop (prefix_len is_blank l) l)
 said_past at [] = refl
 said_past at (c ∷ l) =
     let n = prefix_len is_blank l in

@@ -1,5 +1,5 @@
 -- Numbers in a text.
-use Rattle.std.specs.Prelude.{ℕ, ◌+◌, ◌-◌, ◌*◌, ◌^◌, ◌<◌, ◌≤◌, cond, List, [], ◌∷◌, Ok, Err, Result, ◌==◌, nat_lt}
+use Rattle.std.specs.Prelude.{ℕ, ◌+◌, ◌-◌, ◌*◌, ◌^◌, cond, List, [], ◌∷◌, Ok, Err, Result, ◌==◌, nat_lt}
 use Rattle.std.specs.Char.{is_ascii_digit}
 use Rattle.shorthand.specs.declared.words.Misread.{Misread}
 use Rattle.shorthand.specs.declared.words.Reason.TheVariants.{NoNumber, TooLarge}
@@ -16,8 +16,3 @@ fitting at p = cond (p.1 == at) (Err (wrong at NoNumber)) (cond (nat_lt p.0 (2 ^
 -- the number at the front of a text, and the place behind it
 abbrev pub number_at : ℕ → List ℕ → Result (ℕ × ℕ) Misread
 number_at at l = fitting at (digits_on 0 at l)
-
--- what is read at the front of a text of a size takes up at least a character, and lies within the text
-abbrev pub Behind : {X : Type 0} → ℕ → ℕ → Result (X × ℕ) Misread → Type 0
-Behind at size (Ok p) = (at < p.1) × (p.1 ≤ at + size)
-Behind at size (Err m) = Unit {0}

@@ -7,17 +7,14 @@ ghost use Rattle.shorthand.specs.Reader.{left, first, rest, placed, Behind};
 
 use crate::reader::Reader;
 use crate::words::{Action, Misread, Reason};
+use frames::digit;
 use rules::{ADD, READ, WRITE};
 
 /// The value of a hexadecimal digit.
 fn hex_value(c: u8) -> Option<u32>
     ensures { result ≡ hex c }
 {
-    match c {
-        b'0'..=b'9' => Some((c - b'0') as u32),
-        b'A'..=b'F' => Some((c - b'A' + 10) as u32),
-        _ => None,
-    }
+    digit(c).map(u32::from)
 }
 
 impl Reader<'_> {

@@ -1,4 +1,5 @@
 //! The calls of a check. What they promise of the ordering's meaning, they promise where the ordering is sound.
+//! The ordering, the rule and the rows are the owner's. They are no struct: each call is handed those that it takes.
 ghost use Rattle.std.specs.Prelude.{◌≡◌, ℕ, ◌<◌, length, Ok, Err};
 ghost use Rattle.orderings.specs.Meaning.{opening, closing, after_open, after_close};
 ghost use Rattle.trace_check.specs.Calls.{start_answer, start_rows, limited, by_ordering, when_room, one_more, access_answer, one_access, access_rows, verdict_answer, counted};
@@ -50,6 +51,7 @@ impl Check {
     }
 
     /// Closes the innermost open scope, and gives its number.
+    // As `open`, but for what is asked of the ordering: one function for both would take a closure, and need its clauses.
     pub fn close<O: Ordering>(&mut self, ordering: &mut O) -> Result<u32, Refusal>
         ensures answer { O.Ordering.sound ordering.old →
             result ≡ limited self.old (by_ordering (closing (O.Ordering.meaning ordering.old))) }

@@ -11,7 +11,7 @@ use Rattle.tree.specs.Ancestors.{on, side}
 use Rattle.tree.specs.Nodes.{Marks, SoundTree}
 use Rattle.tree.specs.ProgramTree.{place_by, place_under, place_of}
 use Rattle.orderings.proofs.Chains.{chain_split}
-use Rattle.orderings.proofs.Scopes.{cases_kind, innermost_is, innermost_task_is, within_task}
+use Rattle.orderings.proofs.Framed.{cases_kind, innermost_is, innermost_task_is, within_task}
 use Rattle.orderings.specs.Formation.{scopes_of}
 use Rattle.orderings.proofs.Placed.{closing_placed, placed_close}
 use Rattle.tree.specs.Chains.{on_self, on_down}

@@ -1,29 +1,23 @@
 -- The nodes after an open and after a close.
-use Rattle.std.proofs.Common.{◌≡◌, ℕ, ◌+◌, ◌-◌, ◌<◌, Bool, true, false, cond, eqb, ◌≢◌, List, length, set, sym, refl, ap, ◌∙◌, subst, ⊎_elim, arith, get_or-set_other, get_or-set_same}
+use Rattle.std.proofs.Common.{◌≡◌, ℕ, ◌+◌, ◌-◌, ◌<◌, Bool, true, false, cond, eqb, List, length, set, sym, refl, ap, ◌∙◌, subst, ⊎_elim, arith}
 use mathlib.Core.Path.{fun_ext}
 use Rattle.std.proofs.lemmas.Bool.{eq-eqb, ne_eqb, cases_eq, cond-true, cond-false}
 use Rattle.tree.specs.declared.node.Node.{Node}
 use Rattle.orderings.specs.Meaning.{with_scope, after_close}
 use Rattle.orderings.specs.Store.{Frames}
 use Rattle.orderings.specs.Placed.{placed}
+use Rattle.orderings.specs.Scopes.{task_within}
 use Rattle.tree.specs.Nodes.{no_node, node_at, shape, Marks, marks, jump_under, SoundTree}
 use Rattle.tree.specs.ProgramTree.{place_of}
-use Rattle.orderings.specs.Props.{task_finish}
-use Rattle.orderings.proofs.FramedMore.{FramedMore, Within}
+use Rattle.orderings.proofs.Tables.{here, there, column_kept}
+use Rattle.orderings.proofs.FramedMore.{FramedMore}
 use Rattle.tree.proofs.Opens.{MarkedMore, tree_new, placed_new}
 use Rattle.tree.proofs.Closes.{without_live, tree_closed, placed_closed}
-
-module _ (es : List Node) (n : ℕ) (e : Node) (room : n < length es) where
-  here : node_at (set es n e) n ≡ e
-  here = get_or-set_same es n e no_node room
-
-  there : (i : ℕ) → i ≢ n → node_at (set es n e) i ≡ node_at es i
-  there i = get_or-set_other es n i e no_node
 
 -- the node e of a new scope n within s
 pub record Fits (fr : Frames) (m : Marks) (n s : ℕ) (e : Node) : Type 0 where
   pub parent : e.parent ≡ s
-  pub within : Within fr e.kind n s e.within
+  pub within : e.within ≡ task_within e.kind n (fr.within s)
   pub live : e.live ≡ true
   pub depth : e.depth ≡ m.depth s + 1
   pub jump : e.jump ≡ jump_under m s
@@ -31,23 +25,22 @@ pub record Fits (fr : Frames) (m : Marks) (n s : ℕ) (e : Node) : Type 0 where
 module _ (es : List Node) (n s count : ℕ) (e : Node) (room : n < length es) (inside : s < n) (o : SoundTree (shape es) (marks es) n s count) (fit : Fits (shape es) (marks es) n s e) where
   framed_more : FramedMore (shape es) (shape (set es n e)) n s e.kind
   framed_more = record {
-    kinds = λ i l. ap (λ (x : Node). x.kind) (there es n e room i (omega arith));
-    outwards = λ i l. ap (λ (x : Node). x.parent) (there es n e room i (omega arith));
-    withins = λ i l. ap (λ (x : Node). x.within) (there es n e room i (omega arith));
-    new_kind = ap (λ (x : Node). x.kind) (here es n e room);
-    new_outward = ap (λ (x : Node). x.parent) (here es n e room) ∙ fit.parent;
-    new_task = λ t. ap (λ (x : Node). x.within) (here es n e room) ∙ ⊎_elim (λ v. v.1) (λ v. absurd (task_finish e.kind t v.0)) fit.within;
-    new_finish = λ f. ap (λ (x : Node). x.within) (here es n e room) ∙ ⊎_elim (λ v. absurd (task_finish e.kind v.0 f)) (λ v. v.1) fit.within;
+    kinds = λ i l. ap (λ (x : Node). x.kind) (there no_node es n e room i (omega arith));
+    outwards = λ i l. ap (λ (x : Node). x.parent) (there no_node es n e room i (omega arith));
+    withins = λ i l. ap (λ (x : Node). x.within) (there no_node es n e room i (omega arith));
+    new_kind = ap (λ (x : Node). x.kind) (here no_node es n e room);
+    new_outward = ap (λ (x : Node). x.parent) (here no_node es n e room) ∙ fit.parent;
+    new_within = ap (λ (x : Node). x.within) (here no_node es n e room) ∙ fit.within;
   }
 
   marked_more : MarkedMore (marks es) (marks (set es n e)) n s
   marked_more = record {
-    lives = λ i l. ap (λ (x : Node). x.live) (there es n e room i (omega arith));
-    depths = λ i l. ap (λ (x : Node). x.depth) (there es n e room i (omega arith));
-    jumps = λ i l. ap (λ (x : Node). x.jump) (there es n e room i (omega arith));
-    new_live = ap (λ (x : Node). x.live) (here es n e room) ∙ fit.live;
-    new_depth = ap (λ (x : Node). x.depth) (here es n e room) ∙ fit.depth;
-    new_jump = ap (λ (x : Node). x.jump) (here es n e room) ∙ fit.jump;
+    lives = λ i l. ap (λ (x : Node). x.live) (there no_node es n e room i (omega arith));
+    depths = λ i l. ap (λ (x : Node). x.depth) (there no_node es n e room i (omega arith));
+    jumps = λ i l. ap (λ (x : Node). x.jump) (there no_node es n e room i (omega arith));
+    new_live = ap (λ (x : Node). x.live) (here no_node es n e room) ∙ fit.live;
+    new_depth = ap (λ (x : Node). x.depth) (here no_node es n e room) ∙ fit.depth;
+    new_jump = ap (λ (x : Node). x.jump) (here no_node es n e room) ∙ fit.jump;
   }
 
   module _ (us : List Node) (put : us ≡ set es n e) where
@@ -64,28 +57,19 @@ abbrev pub shut : Node → Node
 shut e = record { kind = e.kind; live = false; parent = e.parent; within = e.within; depth = e.depth; jump = e.jump }
 
 module _ (es : List Node) (s : ℕ) (room : s < length es) where
-  -- a field that the write keeps
-  kept : {A : Type 0} (col : Node → A) → ((e : Node) → col (shut e) ≡ col e) → ◌≡◌ {A = ℕ → A} (λ i. col (node_at (set es s (shut (node_at es s))) i)) (λ i. col (node_at es i))
-  kept col same =
-      fun_ext (λ i.
-      ⊎_elim
-      (λ q. ap (λ (k : ℕ). col (node_at (set es s (shut (node_at es s))) k)) q ∙ ap col (here es s (shut (node_at es s)) room) ∙ same (node_at es s) ∙ ap (λ (k : ℕ). col (node_at es k)) (sym q))
-      (λ q. ap col (there es s (shut (node_at es s)) room i q))
-      (cases_eq i s))
-
   live_off : ◌≡◌ {A = ℕ → Bool} (λ i. (node_at (set es s (shut (node_at es s))) i).live) (λ i. cond (eqb i s) false (node_at es i).live)
   live_off =
       fun_ext (λ i.
       ⊎_elim
-      (λ q. ap (λ (k : ℕ). (node_at (set es s (shut (node_at es s))) k).live) q ∙ ap (λ (e : Node). e.live) (here es s (shut (node_at es s)) room) ∙ sym (cond-true (eqb i s) _ _ (eq-eqb i s q)))
-      (λ q. ap (λ (e : Node). e.live) (there es s (shut (node_at es s)) room i q) ∙ sym (cond-false (eqb i s) _ _ (ne_eqb i s q)))
+      (λ q. ap (λ (k : ℕ). (node_at (set es s (shut (node_at es s))) k).live) q ∙ ap (λ (e : Node). e.live) (here no_node es s (shut (node_at es s)) room) ∙ sym (cond-true (eqb i s) _ _ (eq-eqb i s q)))
+      (λ q. ap (λ (e : Node). e.live) (there no_node es s (shut (node_at es s)) room i q) ∙ sym (cond-false (eqb i s) _ _ (ne_eqb i s q)))
       (cases_eq i s))
 
   pub shape_shut : shape (set es s (shut (node_at es s))) ≡ shape es
-  shape_shut = λ j. record { kind = kept (λ e. e.kind) (λ e. refl) j; outward = kept (λ e. e.parent) (λ e. refl) j; within = kept (λ e. e.within) (λ e. refl) j }
+  shape_shut = λ j. record { kind = column_kept no_node es s (shut (node_at es s)) room (λ e. e.kind) refl j; outward = column_kept no_node es s (shut (node_at es s)) room (λ e. e.parent) refl j; within = column_kept no_node es s (shut (node_at es s)) room (λ e. e.within) refl j }
 
   pub marks_shut : marks (set es s (shut (node_at es s))) ≡ without_live (marks es) s
-  marks_shut = λ j. record { live = live_off j; depth = kept (λ e. e.depth) (λ e. refl) j; jump = kept (λ e. e.jump) (λ e. refl) j }
+  marks_shut = λ j. record { live = live_off j; depth = column_kept no_node es s (shut (node_at es s)) room (λ e. e.depth) refl j; jump = column_kept no_node es s (shut (node_at es s)) room (λ e. e.jump) refl j }
 
 module _ (es us : List Node) (n s count p : ℕ) (room : s < length es) (inside : s < n) (more : 1 < count) (o : SoundTree (shape es) (marks es) n s count) (put : us ≡ set es s (shut (node_at es s))) (to : p ≡ (shape es).outward s) where
   same_shape : shape us ≡ shape es

@@ -13,4 +13,4 @@ pub formed_tree : (t : Tree) → WellFormed (meaning t)
 formed_tree t =
     let fr = tree t in
     let w = (reveal_tree t.sound).framed in
-    formed_placed fr (place_of fr t.begun t.inner) _ t.begun t.inner w t.innermost (cond-true (on (chain fr.outward t.begun t.inner) 0) _ _ (main_open fr.outward t.begun w.inward t.inner t.innermost))
+    formed_placed fr (place_of fr t.scopes.begun t.scopes.inner) _ t.scopes.begun t.scopes.inner w t.scopes.innermost (cond-true (on (chain fr.outward t.scopes.begun t.scopes.inner) 0) _ _ (main_open fr.outward t.scopes.begun w.inward t.scopes.inner t.scopes.innermost))

@@ -1,15 +1,10 @@
 -- How the tree is kept: main's node is number 0, and those of the caller's table go on from 1.
-use Rattle.std.specs.Prelude.{◌≡◌, ℕ, suc, ◌+◌, ◌-◌, ◌<◌, Bool, true, false, cond, ◌≢◌, List, ◌∷◌, length, ◌==◌, slice_index_or}
+use Rattle.std.specs.Prelude.{◌≡◌, ℕ, suc, ◌+◌, ◌-◌, ◌<◌, Bool, true, false, cond, ◌≢◌, List, length, ◌==◌, slice_index_or}
 use Rattle.orderings.specs.declared.words.Kind.TheVariants.{Task}
 use Rattle.tree.specs.declared.node.Node.{Node}
-use Rattle.tree.specs.declared.nodes.Nodes.{Nodes}
 use Rattle.orderings.specs.Store.{Frames, chain}
 use Rattle.orderings.specs.Sound.{Framed}
 use Rattle.tree.specs.Ancestors.{on}
-
--- the nodes by number
-abbrev pub all : Nodes → List Node
-all s = s.main ∷ s.table.now
 
 -- a node that holds no scope yet
 abbrev pub no_node : Node

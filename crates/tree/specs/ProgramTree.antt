@@ -10,11 +10,12 @@ use Rattle.orderings.specs.Meaning.{Meaning}
 use Rattle.orderings.specs.Store.{Frames, chain}
 use Rattle.orderings.specs.Placed.{placed}
 use Rattle.tree.specs.Ancestors.{Above, ChildTowards, on, side}
-use Rattle.tree.specs.Nodes.{all, shape, marks, Turns}
+use Rattle.orderings.specs.Table.{entries}
+use Rattle.tree.specs.Nodes.{shape, marks, Turns}
 
 -- the scopes, each within its parent
 abbrev pub tree : Tree → Frames
-tree t = shape (all t.nodes)
+tree t = shape (entries t.nodes)
 
 -- the tasks under b, which is closed while its parent is open: unordered at the parent if b is a task, else before at the innermost task there
 abbrev pub place_by : Kind → ℕ → ℕ → Place
@@ -30,7 +31,7 @@ place_of fr n y x = cond (on (chain fr.outward n y) x) (before x) (place_under f
 
 -- what the tree means: the scopes open are the chain up from the innermost one, and each task has that place
 abbrev pub meaning : Tree → Meaning
-meaning t = placed (tree t) (place_of (tree t) t.begun t.inner) (length t.nodes.table.now) t.begun t.inner
+meaning t = placed (tree t) (place_of (tree t) t.scopes.begun t.scopes.inner) (length t.nodes.lent.now) t.scopes.begun t.scopes.inner
 
 -- the scope s is on a list of open scopes
 abbrev pub Has : List Scope → ℕ → Type 0
@@ -39,7 +40,7 @@ Has (x ∷ ss) s = (number x ≡ s) ⊎ Has ss s
 
 -- the open scopes are exactly the innermost one and its ancestors
 abbrev pub OpenAbove : Tree → Type 0
-OpenAbove t = (s : ℕ) → Has (meaning t).opened s ↔ Above (tree t).outward s t.inner
+OpenAbove t = (s : ℕ) → Has (meaning t).opened s ↔ Above (tree t).outward s t.scopes.inner
 
 -- the word of a closed task, by the kind of the child on its side
 abbrev pub word_under : Kind → Word
@@ -55,20 +56,20 @@ pub record Says (fr : Frames) (y x : ℕ) (w : Word) : Type 0 where
 
 -- what the tree says of the task x
 abbrev pub Query : Tree → ℕ → Word → Type 0
-Query t x w = Says (tree t) t.inner x w
+Query t x w = Says (tree t) t.scopes.inner x w
 
 -- x is begun and not open
 pub record Closed (t : Tree) (x : ℕ) : Type 0 where
-  pub begun : x < t.begun
-  pub shut : Above (tree t).outward x t.inner → ⊥
+  pub begun : x < t.scopes.begun
+  pub shut : Above (tree t).outward x t.scopes.inner → ⊥
 
 -- the child on the side of x, where x meets the innermost open scope
 abbrev pub side_of : Tree → ℕ → ℕ
-side_of t x = side (tree t).outward t.begun t.inner x
+side_of t x = side (tree t).outward t.scopes.begun t.scopes.inner x
 
 -- each search from a closed scope finds the child on its side in so many turns at most
 abbrev pub Within : ℕ → Tree → Type 0
-Within most t = (x : ℕ) → Closed t x → (k : ℕ) × (k ≤ most) × Turns (tree t) (marks (all t.nodes)) k x (side_of t x)
+Within most t = (x : ℕ) → Closed t x → (k : ℕ) × (k ≤ most) × Turns (tree t) (marks (entries t.nodes)) k x (side_of t x)
 
 -- 48 turns are enough in any table
 abbrev pub Within48 : Tree → Type 0
@@ -76,4 +77,4 @@ Within48 t = Within 48 t
 
 -- among n scopes begun, three times log2 n turns are enough
 abbrev pub Within3Log : Tree → Type 0
-Within3Log t = (r : ℕ) → t.begun ≤ 2 ^ r → Within (3 * r) t
+Within3Log t = (r : ℕ) → t.scopes.begun ≤ 2 ^ r → Within (3 * r) t

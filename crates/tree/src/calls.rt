@@ -1,13 +1,13 @@
 //! The calls of the tree.
-ghost use Rattle.std.specs.Prelude.{◌≡◌, min, length, Ok, Err};
+ghost use Rattle.std.specs.Prelude.{◌≡◌, ◌<◌, min, length, Ok, Err};
 ghost use Rattle.orderings.specs.Meaning.{new as fresh, opening, after_open, closing, after_close, asked};
-ghost use Rattle.tree.specs.Nodes.{all, marks, jump_under};
+ghost use Rattle.orderings.specs.Table.{entries};
+ghost use Rattle.tree.specs.Nodes.{node_at, marks, jump_under};
 ghost use Rattle.tree.specs.ProgramTree.{meaning as meaning_of, Closed, side_of, Query, OpenAbove, Within48, Within3Log};
 
 use crate::Tree;
 use crate::node::Node;
-use crate::nodes::Nodes;
-use orderings::{Fault, Kind, Word};
+use orderings::{Fault, Kind, Scopes, Table, Word};
 
 impl<'t> Tree<'t> {
     /// Main alone is begun. A table of n entries leaves the smaller of n and 65,535 numbers beyond main.
@@ -18,11 +18,10 @@ impl<'t> Tree<'t> {
             live: true,
             ..Node::EMPTY
         };
+        let scopes = Scopes::new(table.len());
         Tree {
-            nodes: Nodes { main, table },
-            begun: 1,
-            inner: 0,
-            count: 1,
+            nodes: Table::new(main, table),
+            scopes,
         }
     }
 }
@@ -38,10 +37,10 @@ impl Tree<'_> {
         ensures turns { Within48 self.now }
         ensures logarithmic { Within3Log self.now }
     {
-        if task >= self.begun {
+        if task >= self.scopes.begun() {
             return Err(Fault::NoSuchTask);
         }
-        let node = self.nodes.node(task);
+        let node = self.node(task);
         match node.kind {
             Kind::Finish => Err(Fault::NoSuchTask),
             Kind::Task => {
@@ -49,12 +48,20 @@ impl Tree<'_> {
                     return Ok(Word::Before);
                 }
                 let side = self.side(task);
-                match self.nodes.node(side).kind {
+                match self.node(side).kind {
                     Kind::Task => Ok(Word::Unordered),
                     Kind::Finish => Ok(Word::Before),
                 }
             }
         }
+    }
+
+    // The node of a scope begun.
+    pub(crate) fn node(&self, n: u32) -> Node
+        requires { n < self.now.scopes.begun }
+        ensures { result ≡ node_at (entries self.now.nodes) n }
+    {
+        self.nodes.entry(n)
     }
 
     // The child, on the side of the closed scope x, of its least common ancestor with the innermost open scope. The search goes up
@@ -65,12 +72,12 @@ impl Tree<'_> {
     {
         let mut at = x;
         for _ in 0..48u32 {
-            let node = self.nodes.node(at);
-            let above = self.nodes.node(node.parent);
+            let node = self.node(at);
+            let above = self.node(node.parent);
             if above.live {
                 return at;
             }
-            let far = self.nodes.node(node.jump);
+            let far = self.node(node.jump);
             at = if far.live { node.parent } else { node.jump };
         }
         unreachable()
@@ -78,45 +85,43 @@ impl Tree<'_> {
 
     // The jump of a new child of the innermost scope: past two jumps of one length, else to that scope.
     fn next_jump(&self) -> u32
-        ensures { result ≡ jump_under (marks (all self.now.nodes)) self.now.inner }
+        ensures { result ≡ jump_under (marks (entries self.now.nodes)) self.now.scopes.inner }
     {
-        let parent = self.nodes.node(self.inner);
-        let far = self.nodes.node(parent.jump);
-        let farther = self.nodes.node(far.jump);
+        let inner = self.scopes.innermost();
+        let parent = self.node(inner);
+        let far = self.node(parent.jump);
+        let farther = self.node(far.jump);
         if parent.depth - far.depth == far.depth - farther.depth {
             far.jump
         } else {
-            self.inner
+            inner
         }
     }
 
+    // Apart from the ordering's `open`, whose clauses begin with soundness: here every value is sound.
     pub(crate) fn open_scope(&mut self, kind: Kind) -> Result<u32, Fault>
         ensures answer { result ≡ opening (meaning_of self.old) }
         ensures after { meaning_of self.new ≡ after_open kind (meaning_of self.old) }
         ensures refused { (f : Fault) → result ≡ Err f → self.new ≡ self.old }
     {
-        let number = self.begun;
-        if number > 65535 || number as usize > self.nodes.table.len() {
-            return Err(Fault::NoNumberLeft);
-        }
-        let parent = self.inner;
-        let above = self.nodes.node(parent);
-        let within = match kind {
-            Kind::Task => number,
-            Kind::Finish => above.within,
-        };
+        let parent = self.scopes.innermost();
+        let scopes = self.scopes.opened()?;
+        let number = scopes.innermost();
+        let above = self.node(parent);
+        let within = scopes.within(kind, above.within);
         let jump = self.next_jump();
-        self.nodes.table[number as usize - 1] = Node {
-            kind,
-            live: true,
-            parent,
-            within,
-            depth: above.depth + 1,
-            jump,
-        };
-        self.begun = number + 1;
-        self.inner = number;
-        self.count += 1;
+        self.nodes.set_entry(
+            number,
+            Node {
+                kind,
+                live: true,
+                parent,
+                within,
+                depth: above.depth + 1,
+                jump,
+            },
+        );
+        self.scopes = scopes;
         Ok(number)
     }
 
@@ -125,14 +130,17 @@ impl Tree<'_> {
         ensures after { meaning_of self.new ≡ after_close (meaning_of self.old) }
         ensures refused { (f : Fault) → result ≡ Err f → self.new ≡ self.old }
     {
-        if self.count <= 1 {
-            return Err(Fault::MainAlone);
-        }
-        let number = self.inner;
-        let parent = self.nodes.node(number).parent;
-        self.nodes.table[number as usize - 1].live = false;
-        self.inner = parent;
-        self.count -= 1;
+        let number = self.scopes.innermost();
+        let node = self.node(number);
+        let scopes = self.scopes.closed(node.parent)?;
+        self.nodes.set_entry(
+            number,
+            Node {
+                live: false,
+                ..node
+            },
+        );
+        self.scopes = scopes;
         Ok(number)
     }
 }

@@ -1,14 +1,14 @@
 //! The program structure tree: an ordering on a table lent by the caller.
 #![tactic(auto)]
 
-ghost use Rattle.std.specs.Prelude.{◌+◌, ◌<◌, ◌≤◌, length};
-ghost use Rattle.tree.specs.Nodes.{all, shape, marks, SoundTree};
+ghost use Rattle.std.specs.Prelude.{◌≡◌, min, length};
+ghost use Rattle.orderings.specs.Table.{entries};
+ghost use Rattle.tree.specs.Nodes.{shape, marks, SoundTree};
 
-use crate::nodes::Nodes;
+use orderings::{Scopes, Table};
 
 mod calls;
 mod node;
-mod nodes;
 mod ordering;
 
 pub use node::Node;
@@ -17,17 +17,8 @@ pub use node::Node;
 /// the innermost one and its ancestors.
 #[derive(Drop)]
 pub struct Tree<'t> {
-    nodes: Nodes<'t>,
-    /// How many scopes were begun, main counted.
-    begun: u32,
-    /// The innermost open scope.
-    inner: u32,
-    /// How many scopes are open, main counted.
-    count: u32,
-    ghost some: { 0 < count },
-    ghost fewer: { count ≤ begun },
-    ghost room: { begun ≤ length nodes.table.now + 1 },
-    ghost few: { begun ≤ 65536 },
-    ghost innermost: { inner < begun },
-    ghost sound: { ∥ SoundTree (shape (all nodes)) (marks (all nodes)) begun inner count ∥₁ },
+    nodes: Table<'t, Node>,
+    scopes: Scopes,
+    ghost numbers: { scopes.numbers ≡ min (length nodes.lent.now) 65535 },
+    ghost sound: { ∥ SoundTree (shape (entries nodes)) (marks (entries nodes)) scopes.begun scopes.inner scopes.count ∥₁ },
 }

@@ -2,6 +2,7 @@
 use orderings::Kind;
 
 /// One entry of the table lent to [`Tree`](crate::Tree): a scope. All but `live` is set when the scope is opened, and never changed.
+// Nodes name one another by number: the table is fixed memory that the caller lends, and nothing is allocated.
 #[derive(Clone, Copy)]
 pub struct Node {
     pub(crate) kind: Kind,

@@ -25,31 +25,27 @@ impl<'t> Ordering for Tree<'t> {
     }
 
     fn innermost_task(&self) -> u32 {
-        self.nodes.node(self.inner).within
+        self.node(self.scopes.innermost()).within
     }
 
     fn open_count(&self) -> u32 {
-        self.count
+        self.scopes.open_count()
     }
 
     fn kind_of(&self, number: u32) -> Option<Kind> {
-        if number < self.begun {
-            Some(self.nodes.node(number).kind)
+        // Not by `then`: its closure would need a contract written out. Nor in `Table`, which knows no entry's kind.
+        if number < self.scopes.begun() {
+            Some(self.node(number).kind)
         } else {
             None
         }
     }
 
     fn begun(&self) -> u32 {
-        self.begun
+        self.scopes.begun()
     }
 
     fn left(&self) -> u32 {
-        let nodes = self.nodes.table.len();
-        if nodes < 65535 {
-            nodes as u32 + 1 - self.begun
-        } else {
-            65536 - self.begun
-        }
+        self.scopes.left()
     }
 }

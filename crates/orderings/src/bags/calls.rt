@@ -2,12 +2,14 @@
 ghost use Rattle.std.specs.Prelude.{◌≡◌, ◌<◌, min, length, Err};
 ghost use Rattle.orderings.specs.Forest.{root as root_of, Shallow};
 ghost use Rattle.orderings.specs.Meaning.{new as fresh, opening, after_open, closing, after_close, asked};
-ghost use Rattle.orderings.specs.Store.{entries, forest};
+ghost use Rattle.orderings.specs.Store.{forest};
+ghost use Rattle.orderings.specs.Table.{entries};
 ghost use Rattle.orderings.specs.Bags.{meaning as meaning_of};
 
 use crate::bags::Bags;
 use crate::bags::entry::Entry;
-use crate::bags::store::Store;
+use crate::scopes::Scopes;
+use crate::table::Table;
 use crate::words::{Fault, Kind, Word};
 
 impl<'t> Bags<'t> {
@@ -15,14 +17,10 @@ impl<'t> Bags<'t> {
     pub fn new(table: &'t mut [Entry]) -> Bags<'t>
         ensures { meaning_of result ≡ fresh (min (length table.old) 65535) }
     {
+        let scopes = Scopes::new(table.len());
         Bags {
-            store: Store {
-                main: Entry::EMPTY,
-                table,
-            },
-            begun: 1,
-            inner: 0,
-            count: 1,
+            store: Table::new(Entry::EMPTY, table),
+            scopes,
         }
     }
 }
@@ -32,20 +30,21 @@ impl Bags<'_> {
     /// steps below its root among n scopes begun.
     pub fn word_of(&self, task: u32) -> Result<Word, Fault>
         ensures answer { result ≡ asked (meaning_of self.now).begun task }
-        ensures steps { Shallow (forest (entries self.now.store)) self.now.begun }
+        ensures steps { Shallow (forest (entries self.now.store)) self.now.scopes.begun }
     {
-        if task >= self.begun {
+        if task >= self.scopes.begun() {
             return Err(Fault::NoSuchTask);
         }
         if task == 0 {
             return Ok(Word::Before);
         }
-        let kind = self.store.table[task as usize - 1].kind;
+        // The search reads the table itself: by `at`, a question took more than twice the instructions.
+        let kind = self.store.lent[task as usize - 1].kind;
         match kind {
             Kind::Finish => Err(Fault::NoSuchTask),
             Kind::Task => {
                 let root = self.root(task);
-                if self.store.table[root as usize - 1].bag % 2 == 0 {
+                if self.store.lent[root as usize - 1].bag % 2 == 0 {
                     Ok(Word::Before)
                 } else {
                     Ok(Word::Unordered)
@@ -56,12 +55,12 @@ impl Bags<'_> {
 
     // The root above the element x. Each turn goes up to a higher rank, and among 65,536 elements every rank is below sixteen.
     fn root(&self, x: u32) -> u32
-        requires { (0 < x) × (x < self.now.begun) }
+        requires { (0 < x) × (x < self.now.scopes.begun) }
         ensures { result ≡ root_of (forest (entries self.now.store)) x }
     {
         let mut at = x;
         for _ in 0..16u32 {
-            let parent = self.store.table[at as usize - 1].parent;
+            let parent = self.store.lent[at as usize - 1].parent;
             if parent == at {
                 return at;
             }
@@ -71,33 +70,30 @@ impl Bags<'_> {
     }
 
     /// Begins a scope of a kind within the innermost open scope.
+    // Apart from the ordering's `open`, whose clauses begin with soundness: here every value is sound.
     pub(crate) fn open_scope(&mut self, kind: Kind) -> Result<u32, Fault>
         ensures answer { result ≡ opening (meaning_of self.old) }
         ensures after { meaning_of self.new ≡ after_open kind (meaning_of self.old) }
         ensures refused { (f : Fault) → result ≡ Err f → self.new ≡ self.old }
     {
-        let number = self.begun;
-        if number > 65535 || number as usize > self.store.table.len() {
-            return Err(Fault::NoNumberLeft);
-        }
-        let outward = self.inner;
-        let within = match kind {
-            Kind::Task => number,
-            Kind::Finish => self.store.entry(outward).within,
-        };
-        self.store.table[number as usize - 1] = Entry {
-            kind,
-            rank: 0,
-            parent: number,
-            bag: 2 * number,
-            outward,
-            within,
-            serial: number,
-            parallel: 0,
-        };
-        self.begun = number + 1;
-        self.inner = number;
-        self.count += 1;
+        let outward = self.scopes.innermost();
+        let scopes = self.scopes.opened()?;
+        let number = scopes.innermost();
+        let within = scopes.within(kind, self.store.at(outward).within);
+        self.store.set_entry(
+            number,
+            Entry {
+                kind,
+                rank: 0,
+                parent: number,
+                bag: 2 * number,
+                outward,
+                within,
+                serial: number,
+                parallel: 0,
+            },
+        );
+        self.scopes = scopes;
         Ok(number)
     }
 
@@ -107,13 +103,11 @@ impl Bags<'_> {
         ensures after { meaning_of self.new ≡ after_close (meaning_of self.old) }
         ensures refused { (f : Fault) → result ≡ Err f → self.new ≡ self.old }
     {
-        if self.count <= 1 {
-            return Err(Fault::MainAlone);
-        }
-        let number = self.inner;
+        let number = self.scopes.innermost();
+        let outward = self.store.at(number).outward;
+        let scopes = self.scopes.closed(outward)?;
         self.store.pour_out(number);
-        self.inner = self.store.entry(number).outward;
-        self.count -= 1;
+        self.scopes = scopes;
         Ok(number)
     }
 }

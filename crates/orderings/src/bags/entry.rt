@@ -1,8 +1,11 @@
 //! The entries of the table that bags are kept in.
+ghost use Rattle.std.specs.Prelude.{◌≡◌};
+
 use crate::words::Kind;
 
 /// One entry of the table lent to [`Bags`](crate::Bags): a scope, and the element of its own number in the forest of bags.
 /// The bags of scope s have the numbers 2 s, its S bag, and 2 s + 1, its P bag.
+// Entries name one another by number, 0 for none: the table is fixed memory that the caller lends, and nothing is allocated.
 #[derive(Clone, Copy)]
 pub struct Entry {
     pub(crate) kind: Kind,
@@ -21,6 +24,8 @@ pub struct Entry {
 }
 
 impl Entry {
+    ghost use Rattle.orderings.specs.Store.{head_of, with_head};
+
     /// An entry that holds no scope yet.
     pub const EMPTY: Entry = Entry {
         kind: Kind::Task,
@@ -32,4 +37,25 @@ impl Entry {
         serial: 0,
         parallel: 0,
     };
+
+    /// The root of the bag of that number, one of the scope's two.
+    pub(crate) fn head(&self, bag: u32) -> u32
+        ensures { result ≡ head_of self.now bag }
+    {
+        if bag % 2 == 0 {
+            self.serial
+        } else {
+            self.parallel
+        }
+    }
+
+    pub(crate) fn set_head(&mut self, bag: u32, root: u32)
+        ensures { self.new ≡ with_head bag root self.old }
+    {
+        if bag % 2 == 0 {
+            self.serial = root;
+        } else {
+            self.parallel = root;
+        }
+    }
 }

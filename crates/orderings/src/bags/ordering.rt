@@ -26,31 +26,27 @@ impl<'t> Ordering for Bags<'t> {
     }
 
     fn innermost_task(&self) -> u32 {
-        self.store.entry(self.inner).within
+        self.store.at(self.scopes.innermost()).within
     }
 
     fn open_count(&self) -> u32 {
-        self.count
+        self.scopes.open_count()
     }
 
     fn kind_of(&self, number: u32) -> Option<Kind> {
-        if number < self.begun {
-            Some(self.store.entry(number).kind)
+        // Not by `then`: its closure would need a contract written out. Nor in `Table`, which knows no entry's kind.
+        if number < self.scopes.begun() {
+            Some(self.store.at(number).kind)
         } else {
             None
         }
     }
 
     fn begun(&self) -> u32 {
-        self.begun
+        self.scopes.begun()
     }
 
     fn left(&self) -> u32 {
-        let entries = self.store.table.len();
-        if entries < 65535 {
-            entries as u32 + 1 - self.begun
-        } else {
-            65536 - self.begun
-        }
+        self.scopes.left()
     }
 }

@@ -1,4 +1,4 @@
-use Rattle.std.proofs.Common.{◌≡◌, length, Err, ap, sym, ◌∙◌}
+use Rattle.std.proofs.Common.{◌≡◌, ◌≤◌, length, Err, ap, sym, ◌∙◌, arith}
 use Rattle.std.proofs.lemmas.Result.{err_from_is_err_and}
 use Rattle.shorthand.specs.Reading.{told, read_answer, read_into}
 use Rattle.shorthand.proofs.Plans.{all_read}
@@ -6,12 +6,13 @@ use Rattle.shorthand.proofs.Back.{read_back}
 use Rattle.shorthand.proofs.reading.read.Goals as goal
 use Rattle.shorthand.proofs.reading.read.Goals.{After-actions}
 
--- the name of the rule is read, and from there on the actions
 all : (c : After-actions) → (told c.rule-rule.result c.actions.result ≡ read_answer (length c.args.actions.now) c.args.text.now) × (c.actions.new.places ≡ read_into c.args.actions.now c.args.text.now)
 all c =
-    let named = rw (c.new-reader.ensures.front, c.new-reader.ensures.text) at c.rule-rule.ensures.rule in
-    let read = rw (c.rule-rule.ensures.text, c.new-reader.ensures.text) at c.actions.ensures in
-    all_read _ _ _ (c.rule-rule.result, c.rule-rule.new.self.at) _ c.if-actions-text.false named read.answer read.places
+    let f = c.new-reader.ensures in
+    let n = c.rule-rule.ensures in
+    let a = c.actions.ensures in
+    let room : length c.args.text.now ≤ length c.args.actions.now = omega arith in
+    all_read _ _ _ _ _ c.new-reader.result c.rule-rule.new.self room f.text f.front n.rule n.text a.answer a.places
 
 pub returns-in_err-count : goal.returns-in_err-count
 returns-in_err-count c =

@@ -1,63 +1,67 @@
-use Rattle.std.proofs.Common.{◌≡◌, ℕ, ◌-◌, ◌<◌, List, length, sym, refl, ap, arith, length-set}
-use Rattle.std.proofs.lemmas.List.{length-map}
+use Rattle.std.proofs.Common.{◌≡◌, ℕ, ◌<◌, min, false, List, length, set, Ok, sym, refl, ap, ◌∙◌, subst, arith}
+use Rattle.orderings.specs.declared.scopes.Scopes.{Scopes}
+use Rattle.orderings.specs.Meaning.{closing, after_close}
+use Rattle.orderings.specs.Placed.{placed}
+use Rattle.orderings.specs.Scopes.{ClosedTo}
+use Rattle.orderings.proofs.Numbers.{at_numbers, begun_room}
+use Rattle.orderings.proofs.Tables.{kept_size}
 use Rattle.tree.specs.declared.Tree.{Tree}
 use Rattle.tree.specs.declared.node.Node.{Node}
-use Rattle.orderings.specs.Meaning.{scope_as}
-use Rattle.orderings.specs.Store.{chain}
-use Rattle.tree.specs.Nodes.{all, no_node, node_at, marks}
-use Rattle.tree.specs.ProgramTree.{tree, meaning}
-use Rattle.orderings.proofs.Placed.{closing_alone}
-use Rattle.orderings.proofs.Tables.{entry_write}
+use Rattle.orderings.specs.Table.{entries}
+use Rattle.tree.specs.Nodes.{node_at, shape, marks, SoundTree}
+use Rattle.tree.specs.ProgramTree.{tree, place_of, meaning}
 use Rattle.tree.specs.Props.{reveal_tree}
-use Rattle.tree.proofs.Closes.{inner_not_main, parent_low, closing_closed}
+use Rattle.tree.proofs.Closes.{parent_low, closing_closed}
 use Rattle.tree.proofs.Writes.{shut, tree_shut, placed_shut}
 use Rattle.tree.proofs.Tree.close_scope.Goals as goal
 
-pub returns-then-self-le1 : goal.returns-then-self-le1
-returns-then-self-le1 c =
-    let t = c.args.self.now in
-    let counted = (reveal_tree t.sound).counted in
-    let len = length-map (chain (tree t).outward t.begun t.inner) (λ s. scope_as ((tree t).kind s) s) in
-    let alone = closing_alone (meaning t) (omega arith) in
-    record { answer = sym alone.0; after = sym alone.1; refused = λ f e. refl }
+-- the innermost open scope, of the number s, closes
+module _ (t : Tree) (now : Scopes) (s : ℕ) (number-is : s ≡ t.scopes.inner) (node : Node) (node-is : node ≡ node_at (entries t.nodes) s) (out : ClosedTo node.parent t.scopes now) where
+  sound : SoundTree (tree t) (marks (entries t.nodes)) t.scopes.begun s t.scopes.count
+  sound = subst (λ (i : ℕ). SoundTree (tree t) (marks (entries t.nodes)) t.scopes.begun i t.scopes.count) (sym number-is) (reveal_tree t.sound)
 
--- main is not closed, and the parent comes earlier
-low : (t : Tree) → 1 < t.count → (0 < t.inner) × ((tree t).outward t.inner < t.inner)
-low t more =
-    let ne = inner_not_main (tree t) (marks (all t.nodes)) t.begun t.inner t.count (reveal_tree t.sound) t.innermost more in
-    (omega arith, parent_low (tree t) (marks (all t.nodes)) t.begun t.inner t.count (reveal_tree t.sound) t.innermost more)
+  inside : s < t.scopes.begun
+  inside = let inside = t.scopes.innermost in omega arith
 
-pub overflow_sub-self : goal.overflow_sub-self
-overflow_sub-self c = (low c.args.self.now c.if-self-le1.false).0
+  room : s < length (entries t.nodes)
+  room = let room = begun_room t.scopes _ t.numbers in let l = inside in omega arith
+
+  inner-is : now.inner ≡ (tree t).outward s
+  inner-is =
+      let read = ap (λ (e : Node). e.parent) node-is in
+      let low = parent_low (tree t) (marks (entries t.nodes)) t.scopes.begun s t.scopes.count sound inside out.more in
+      let inner = out.inner in
+      omega arith
+
+  answer_close : Ok s ≡ closing (meaning t)
+  answer_close = sym (closing_closed (tree t) (marks (entries t.nodes)) t.scopes.begun s t.scopes.count sound inside out.more (length t.nodes.lent.now)) ∙ ap (λ (i : ℕ). closing (placed (tree t) (place_of (tree t) t.scopes.begun i) (length t.nodes.lent.now) t.scopes.begun i)) number-is
+
+  module _ (us : List Node) (written : us ≡ set (entries t.nodes) s (record node { live = false })) where
+    put : us ≡ set (entries t.nodes) s (shut (node_at (entries t.nodes) s))
+    put = written ∙ ap (λ (e : Node). set (entries t.nodes) s (shut e)) node-is
+
+    sound_close : SoundTree (shape us) (marks us) now.begun now.inner now.count
+    sound_close = at_numbers (SoundTree (shape us) (marks us)) _ _ _ _ _ _ (tree_shut (entries t.nodes) us t.scopes.begun s t.scopes.count now.inner room inside out.more sound put inner-is) out.begun refl out.count
+
+    meaning_close : (size : ℕ) → size ≡ length t.nodes.lent.now → placed (shape us) (place_of (shape us) now.begun now.inner) size now.begun now.inner ≡ after_close (meaning t)
+    meaning_close size same =
+        (λ j. placed (shape us) (place_of (shape us) (out.begun j) now.inner) size (out.begun j) now.inner)
+        ∙ placed_shut (entries t.nodes) us t.scopes.begun s t.scopes.count now.inner room inside out.more sound put inner-is size (length t.nodes.lent.now) same
+        ∙ ap (λ (i : ℕ). after_close (placed (tree t) (place_of (tree t) t.scopes.begun i) (length t.nodes.lent.now) t.scopes.begun i)) number-is
 
 pub invariant_of-self : goal.invariant_of-self
 invariant_of-self c =
     let t = c.args.self.now in
-    let es : List Node = all t.nodes in
-    let below = low t c.if-self-le1.false in
-    let pos = below.0 in
-    let out = below.1 in
-    let to = ap (λ (e : Node). e.parent) c.node-parent.ensures in
-    let sound = tree_shut es _ t.begun t.inner t.count _ (omega arith) t.innermost c.if-self-le1.false (reveal_tree t.sound) (entry_write t.nodes.main t.nodes.table.now t.inner no_node shut pos) to in
+    let out = c.in_ok-scopes.ensures in
     record {
-      some = omega arith;
-      fewer = omega arith;
-      room = omega (arith, length-set {A = Node});
-      few = omega arith;
-      innermost = omega arith;
-      sound = ∣ sound ∣₁;
+      numbers = out.numbers ∙ t.numbers ∙ ap (λ (l : ℕ). min l 65535) (sym (kept_size t.nodes c.set_entry.new.self _ _ c.set_entry.ensures));
+      sound = ∣ sound_close t c.in_ok-scopes.scopes _ c.innermost-number.ensures c.node-node.result c.node-node.ensures out _ c.set_entry.ensures ∣₁;
     }
 
-pub returns : goal.returns
-returns c =
+pub returns-clause-answer : goal.returns-clause-answer
+returns-clause-answer c = answer_close c.args.self.now c.in_ok-scopes.scopes _ c.innermost-number.ensures c.node-node.result c.node-node.ensures c.in_ok-scopes.ensures
+
+pub returns-clause-after : goal.returns-clause-after
+returns-clause-after c =
     let t = c.args.self.now in
-    let es : List Node = all t.nodes in
-    let cap = length t.nodes.table.now in
-    let pos = (low t c.if-self-le1.false).0 in
-    let to = ap (λ (e : Node). e.parent) c.node-parent.ensures in
-    let size = length-set t.nodes.table.now (t.inner - 1) (shut (node_at t.nodes.table.now (t.inner - 1))) in
-    record {
-      answer = sym (closing_closed (tree t) (marks es) t.begun t.inner t.count (reveal_tree t.sound) t.innermost c.if-self-le1.false cap);
-      after = placed_shut es _ t.begun t.inner t.count _ (omega arith) t.innermost c.if-self-le1.false (reveal_tree t.sound) (entry_write t.nodes.main t.nodes.table.now t.inner no_node shut pos) to _ cap size;
-      refused = λ f e. let z : ◌≡◌ {A = ℕ} 0 1 = cc in absurd (omega arith);
-    }
+    meaning_close t c.in_ok-scopes.scopes _ c.innermost-number.ensures c.node-node.result c.node-node.ensures c.in_ok-scopes.ensures _ c.set_entry.ensures _ (kept_size t.nodes c.set_entry.new.self _ _ c.set_entry.ensures)

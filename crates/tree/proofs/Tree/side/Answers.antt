@@ -2,36 +2,37 @@ use Rattle.std.proofs.Common.{◌≡◌, ℕ, ◌+◌, ◌<◌, ◌≤◌, false
 use Rattle.std.proofs.lemmas.Bool.{cond-true, cond-false, cond_both}
 use Rattle.tree.specs.declared.Tree.{Tree}
 use Rattle.tree.specs.declared.node.Node.{Node}
-use Rattle.tree.specs.Nodes.{all, node_at, Marks, marks, Turns}
+use Rattle.orderings.specs.Table.{entries}
+use Rattle.tree.specs.Nodes.{node_at, Marks, marks, Turns}
 use Rattle.tree.specs.ProgramTree.{tree, Closed}
 use Rattle.tree.proofs.Jumps.{leads}
 use Rattle.tree.proofs.Sides.{closed_not_main}
 use Rattle.tree.proofs.Search.{sound_of, closed_off, not_live, within_48}
-use Rattle.tree.proofs.Turns.{next, ended, turned, some_turn}
+use Rattle.tree.proofs.Turns.{next, turned}
 use Rattle.tree.proofs.Tree.side.Goals.{then-far, else-far}
 use Rattle.tree.proofs.Tree.side.Goals as goal
 
 -- the parent and the jump of a closed scope are begun
-parent_begun : (t : Tree) (x : ℕ) → Closed t x → (tree t).outward x < t.begun
+parent_begun : (t : Tree) (x : ℕ) → Closed t x → (tree t).outward x < t.scopes.begun
 parent_begun t x c =
     let s = sound_of t in
     let l = c.begun in
-    let low = s.framed.inward x l (closed_not_main (tree t).outward t.begun s.framed.inward t.inner t.innermost x (closed_off t x c)) in
+    let low = s.framed.inward x l (closed_not_main (tree t).outward t.scopes.begun s.framed.inward t.scopes.inner t.scopes.innermost x (closed_off t x c)) in
     omega arith
 
-jump_begun : (t : Tree) (x : ℕ) → Closed t x → (marks (all t.nodes)).jump x < t.begun
+jump_begun : (t : Tree) (x : ℕ) → Closed t x → (marks (entries t.nodes)).jump x < t.scopes.begun
 jump_begun t x c =
     let s = sound_of t in
     let l = c.begun in
-    let low = (leads (tree t) (marks (all t.nodes)) t.begun t.inner s.framed s.marked x l).low in
+    let low = (leads (tree t) (marks (entries t.nodes)) t.scopes.begun t.scopes.inner s.framed s.marked x l).low in
     omega arith
 
 -- a turn leads to a closed scope again, with one turn less to go
 one_turn :
-    (t : Tree) (x to b k i : ℕ) → Closed t x → k + i ≤ 48 → Turns (tree t) (marks (all t.nodes)) k x b → (marks (all t.nodes)).live ((tree t).outward x) ≡ false
-    → to ≡ next (tree t) (marks (all t.nodes)) x → Closed t to × (j : ℕ) × (j + (i + 1) ≤ 48) × Turns (tree t) (marks (all t.nodes)) j to b
+    (t : Tree) (x to b k i : ℕ) → Closed t x → k + i ≤ 48 → Turns (tree t) (marks (entries t.nodes)) k x b → (marks (entries t.nodes)).live ((tree t).outward x) ≡ false
+    → to ≡ next (tree t) (marks (entries t.nodes)) x → Closed t to × (j : ℕ) × (j + (i + 1) ≤ 48) × Turns (tree t) (marks (entries t.nodes)) j to b
 one_turn t x to b k i c left turns shut is =
-    let m : Marks = marks (all t.nodes) in
+    let m : Marks = marks (entries t.nodes) in
     let rest = turned (tree t) m k x b turns shut in
     let less = rest.1 in (
       subst (Closed t) (sym is)
@@ -44,28 +45,16 @@ one_turn t x to b k i c left turns shut is =
 pub loop-init : goal.loop-init
 loop-init c = let end = within_48 c.args.self.now c.args.x c.requires in let most = end.1 in (c.requires, end.0, omega arith, end.2)
 
-pub node-node-requires : goal.node-node-requires
-node-node-requires c = let t = c.args.self.now in let room = t.room in let l = c.loop.invariant.0.begun in omega arith
-
 pub node-above-requires : goal.node-above-requires
 node-above-requires c =
     let t = c.args.self.now in
-    let room = t.room in
     let l = parent_begun t c.loop.at c.loop.invariant.0 in
     let read = ap (λ (e : Node). e.parent) c.node-node.ensures in
     omega arith
 
-pub returns-then-above : goal.returns-then-above
-returns-then-above c =
-    let t = c.args.self.now in
-    let inv = c.loop.invariant in
-    let read : c.node-above.result ≡ node_at (all t.nodes) ((tree t).outward c.loop.at) = c.node-above.ensures ∙ ap (λ (e : Node). node_at (all t.nodes) e.parent) c.node-node.ensures in
-    sym (ended (tree t) (marks (all t.nodes)) inv.1 c.loop.at _ inv.3 (sym (ap (λ (e : Node). e.live) read) ∙ c.if-above.true))
-
 pub node-far-requires : goal.node-far-requires
 node-far-requires c =
     let t = c.args.self.now in
-    let room = t.room in
     let l = jump_begun t c.loop.at c.loop.invariant.0 in
     let read = ap (λ (e : Node). e.jump) c.node-node.ensures in
     omega arith
@@ -75,20 +64,13 @@ loop-preserved c =
     let t = c.args.self.now in
     let at = c.loop.at in
     let inv = c.loop.invariant in
-    let m : Marks = marks (all t.nodes) in
+    let m : Marks = marks (entries t.nodes) in
     let node = c.node-node.ensures in
-    let above : c.node-above.result ≡ node_at (all t.nodes) ((tree t).outward at) = c.node-above.ensures ∙ ap (λ (e : Node). node_at (all t.nodes) e.parent) node in
-    let far : c.node-far.result ≡ node_at (all t.nodes) (m.jump at) = c.node-far.ensures ∙ ap (λ (e : Node). node_at (all t.nodes) e.jump) node in
+    let above : c.node-above.result ≡ node_at (entries t.nodes) ((tree t).outward at) = c.node-above.ensures ∙ ap (λ (e : Node). node_at (entries t.nodes) e.parent) node in
+    let far : c.node-far.result ≡ node_at (entries t.nodes) (m.jump at) = c.node-far.ensures ∙ ap (λ (e : Node). node_at (entries t.nodes) e.jump) node in
     let live : c.node-far.result.live ≡ m.live (m.jump at) = ap (λ (e : Node). e.live) far in
     one_turn t at c.if-far.at _ inv.1 c.loop.counter inv.0 inv.2 inv.3 (sym (ap (λ (e : Node). e.live) above) ∙ c.if-above.false)
     (elim c.if-far.branch [
       | then-far v ↦ v.at-is ∙ ap (λ (e : Node). e.parent) node ∙ sym (cond-true (m.live (m.jump at)) _ _ (sym live ∙ v.if-far.true))
       | else-far v ↦ v.at-is ∙ ap (λ (e : Node). e.jump) node ∙ sym (cond-false (m.live (m.jump at)) _ _ (sym live ∙ v.if-far.false))
     ])
-
-pub unreachable-requires : goal.unreachable-requires
-unreachable-requires c =
-    let t = c.args.self.now in
-    let some = some_turn (tree t) (marks (all t.nodes)) c.loop.invariant.1 c.loop.at _ c.loop.invariant.3 in
-    let left = c.loop.invariant.2 in
-    omega arith

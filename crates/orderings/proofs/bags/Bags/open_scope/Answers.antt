@@ -1,54 +1,73 @@
-use Rattle.std.proofs.Common.{◌≡◌, ℕ, ◌+◌, ◌-◌, min, eqb, List, length, Ok, sym, ap, ◌∙◌, inl, inr, arith, length-set}
-use Rattle.std.proofs.lemmas.Bool.{ne_eqb, cond-false}
-use Rattle.std.proofs.lemmas.List.FromFn.{length-map-range_with_len}
+use Rattle.std.proofs.Common.{◌≡◌, ℕ, ◌<◌, ◌≤◌, min, List, length, set, Ok, sym, ap, ◌∙◌, arith}
 use Rattle.orderings.specs.declared.words.Kind.{Kind}
+use Rattle.orderings.specs.declared.scopes.Scopes.{Scopes}
+use Rattle.orderings.specs.declared.bags.Bags.{Bags}
 use Rattle.orderings.specs.declared.bags.entry.Entry.{Entry}
-use Rattle.orderings.specs.Meaning.{Meaning}
-use Rattle.orderings.specs.Store.{entries, frames}
-use Rattle.orderings.specs.Bags.{meaning}
-use Rattle.orderings.proofs.Entries.{table_set}
+use Rattle.orderings.specs.Meaning.{after_open}
+use Rattle.orderings.specs.Store.{entry_at, frames, contents}
+use Rattle.orderings.specs.Table.{entries}
+use Rattle.orderings.specs.Scopes.{Opened, task_within}
+use Rattle.orderings.specs.Sound.{Sound}
+use Rattle.orderings.specs.Bags.{place_of, meaning_of, meaning}
 use Rattle.orderings.specs.Props.{reveal}
-use Rattle.orderings.proofs.FramedMore.{Within}
 use Rattle.orderings.proofs.Fresh.{fresh, sound_opened, meaning_opened}
-use Rattle.orderings.proofs.bags.Bags.open_scope.Goals.{in-Task, in-Finish}
+use Rattle.orderings.proofs.Numbers.{at_numbers, begun_few}
+use Rattle.orderings.proofs.Placed.{opening_placed}
+use Rattle.orderings.proofs.Tables.{kept_size}
 use Rattle.orderings.proofs.bags.Bags.open_scope.Goals as goal
+
+-- the entry of the new scope, in the words of the scopes before
+module _ (b : Bags) (k : Kind) (now : Scopes) (o : Opened b.scopes now) (number outward within : ℕ) (above : Entry) (number-is : number ≡ now.inner) (outward-is : outward ≡ b.scopes.inner) (above-is : above ≡ entry_at (entries b.store) outward)
+    (within-is : within ≡ task_within k now.inner above.within) where
+  abbrev n : ℕ
+  n = b.scopes.begun
+
+  abbrev es : List Entry
+  es = entries b.store
+
+  next : number ≡ n
+  next = number-is ∙ o.inner
+
+  way : within ≡ task_within k n ((frames es).within b.scopes.inner)
+  way = within-is ∙ ap (λ (e : Entry). task_within k now.inner e.within) above-is ∙ (λ j. task_within k (o.inner j) ((frames es).within (outward-is j)))
+
+  free : n ≤ min (length b.store.lent.now) 65535
+  free = let numbers = b.numbers in let free = o.free in omega arith
+
+  room : n < length es
+  room = let l = free in omega arith
+
+  module _ (us : List Entry) (written : us ≡ set es number (fresh k number outward within)) where
+    put : us ≡ set es n (fresh k n b.scopes.inner within)
+    put = written ∙ (λ j. set es (next j) (fresh k (next j) (outward-is j) within))
+
+    sound_open : Sound (frames us) (contents us) now.begun now.inner now.count
+    sound_open = at_numbers (Sound (frames us) (contents us)) _ _ _ _ _ _ (sound_opened es n b.scopes.inner within k room b.scopes.count (reveal b.sound) (begun_few b.scopes) b.scopes.innermost way us put) o.begun o.inner o.count
+
+    meaning_open : (size : ℕ) → size ≡ length b.store.lent.now → meaning_of (frames us) (contents us) size now.begun now.inner ≡ after_open k (meaning b)
+    meaning_open size e =
+        (λ j. meaning_of (frames us) (contents us) size (o.begun j) (o.inner j))
+        ∙ meaning_opened es n b.scopes.inner within k room b.scopes.count (reveal b.sound) (begun_few b.scopes) b.scopes.innermost way us put size (length b.store.lent.now) e
+        ∙ sym (opening_placed (frames es) (place_of (contents es)) (length b.store.lent.now) n b.scopes.inner k free).1
 
 pub invariant_of-self : goal.invariant_of-self
 invariant_of-self c =
     let b = c.args.self.now in
-    let n = b.begun in
-    let w = c.match-kind.within in
-    let k : Kind = c.args.kind in
-    let es : List Entry = entries b.store in
-    let way : Within (frames es) k n b.inner w = elim c.match-kind.branch [ in-Task v ↦ inl (v.in-Task.is, v.within-is) | in-Finish v ↦ inr (v.in-Finish.is, v.within-is ∙ ap (λ (x : Entry). x.within) v.entry.ensures) ] in
-    let put = table_set b.store.main b.store.table.now n (λ _. fresh k n b.inner w) (omega arith) in
-    let size = length-set b.store.table.now (n - 1) (fresh k n b.inner w) in
+    let o = c.in_ok-scopes.ensures in
     record {
-      some = omega arith;
-      fewer = omega arith;
-      room = omega arith;
-      few = omega arith;
-      innermost = omega arith;
-      sound = ∣ sound_opened es n b.inner w k (omega arith) b.count (reveal b.sound) b.few b.innermost way _ put ∣₁;
+      numbers = o.numbers ∙ b.numbers ∙ ap (λ (l : ℕ). min l 65535) (sym (kept_size b.store c.set_entry.new.self _ _ c.set_entry.ensures));
+      sound = ∣ sound_open b c.args.kind c.in_ok-scopes.scopes o _ _ _ c.at.result c.innermost-number.ensures c.innermost-outward.ensures c.at.ensures c.within-within.ensures _ c.set_entry.ensures ∣₁;
     }
 
-pub returns : goal.returns
-returns c =
+pub returns-clause-answer : goal.returns-clause-answer
+returns-clause-answer c =
     let b = c.args.self.now in
-    let n = b.begun in
-    let w = c.match-kind.within in
-    let k : Kind = c.args.kind in
+    let o = c.in_ok-scopes.ensures in
     let es : List Entry = entries b.store in
-    let cap = length b.store.table.now in
-    let m : Meaning = meaning b in
-    let way : Within (frames es) k n b.inner w = elim c.match-kind.branch [ in-Task v ↦ inl (v.in-Task.is, v.within-is) | in-Finish v ↦ inr (v.in-Finish.is, v.within-is ∙ ap (λ (x : Entry). x.within) v.entry.ensures) ] in
-    let put = table_set b.store.main b.store.table.now n (λ _. fresh k n b.inner w) (omega arith) in
-    let size = length-set b.store.table.now (n - 1) (fresh k n b.inner w) in
-    let some = ne_eqb (min cap 65535 + 1 - n) 0 (omega arith) in
-    record {
-      answer = sym (cond-false (eqb m.left 0) _ _ some ∙ ap (λ (j : ℕ). Ok j) (length-map-range_with_len _ 0 n));
-      after =
-          meaning_opened es n b.inner w k (omega arith) b.count (reveal b.sound) b.few b.innermost way _ put _ cap size
-          ∙ sym (cond-false (eqb m.left 0) _ _ some);
-      refused = λ f e. let z : ◌≡◌ {A = ℕ} 0 1 = cc in absurd (omega arith);
-    }
+    sym ((opening_placed (frames es) (place_of (contents es)) (length b.store.lent.now) b.scopes.begun b.scopes.inner c.args.kind (omega arith)).0 ∙ ap (λ (j : ℕ). Ok j) (sym (c.innermost-number.ensures ∙ o.inner)))
+
+pub returns-clause-after : goal.returns-clause-after
+returns-clause-after c =
+    let b = c.args.self.now in
+    let o = c.in_ok-scopes.ensures in
+    meaning_open b c.args.kind c.in_ok-scopes.scopes o _ _ _ c.at.result c.innermost-number.ensures c.innermost-outward.ensures c.at.ensures c.within-within.ensures _ c.set_entry.ensures _ (kept_size b.store c.set_entry.new.self _ _ c.set_entry.ensures)

@@ -1,6 +1,10 @@
-use Rattle.std.proofs.Common.{sym}
-use Rattle.std.proofs.lemmas.List.FromFn.{length-map-range_with_len}
+use Rattle.std.proofs.Common.{arith}
+use Rattle.orderings.proofs.Placed.{all_begun}
+use Rattle.tree.specs.ProgramTree.{tree, place_of}
 use Rattle.tree.proofs.ordering.TreeOrdering.begun.Goals as goal
 
 pub returns : goal.returns
-returns c = λ _. sym (length-map-range_with_len _ 0 c.args.self.now.begun)
+returns c =
+    let t = c.args.self.now in
+    let all = all_begun (tree t) (place_of (tree t) t.scopes.begun t.scopes.inner) t.scopes.begun in
+    λ _. omega arith

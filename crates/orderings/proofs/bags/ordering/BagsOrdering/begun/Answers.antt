@@ -1,6 +1,12 @@
-use Rattle.std.proofs.Common.{sym}
-use Rattle.std.proofs.lemmas.List.FromFn.{length-map-range_with_len}
+use Rattle.std.proofs.Common.{arith}
+use Rattle.orderings.specs.Store.{frames, contents}
+use Rattle.orderings.specs.Table.{entries}
+use Rattle.orderings.specs.Bags.{place_of}
+use Rattle.orderings.proofs.Placed.{all_begun}
 use Rattle.orderings.proofs.bags.ordering.BagsOrdering.begun.Goals as goal
 
 pub returns : goal.returns
-returns c = λ _. sym (length-map-range_with_len _ 0 c.args.self.now.begun)
+returns c =
+    let b = c.args.self.now in
+    let all = all_begun (frames (entries b.store)) (place_of (contents (entries b.store))) b.scopes.begun in
+    λ _. omega arith

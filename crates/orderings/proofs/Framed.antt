@@ -38,6 +38,14 @@ at_none f n i l = from 0 n i l
     from a (suc n) zero l = absurd (omega arith)
     from a (suc n) (suc i) l = from (a + 1) n i (omega arith)
 
+pub framed_main : (fr : Frames) → fr.kind 0 ≡ Task → fr.within 0 ≡ 0 → Framed fr 1
+framed_main fr is-task itself = record {
+  main = is-task;
+  inward = λ s l ne. absurd (ne (omega arith));
+  own = λ s l e. let z : 0 ≡ s = omega arith in subst (λ (k : ℕ). fr.within k ≡ k) z itself;
+  lent = λ s l e. let z : s ≡ 0 = omega arith in absurd (task_finish (fr.kind s) (ap fr.kind z ∙ is-task) e);
+}
+
 module _ (fr : Frames) (n : ℕ) (w : Framed fr n) where
   pub innermost_is : (f s : ℕ) → s < f → innermost (scopes_of fr (chain fr.outward f s)) ≡ s
   innermost_is f s l = ap (λ (ss : List ℕ). innermost (scopes_of fr ss)) (chain_first fr.outward n w.inward f s l).1 ∙ number_as (fr.kind s) s

@@ -2,9 +2,10 @@ use Rattle.std.proofs.Common.{◌≡◌, ℕ, ◌+◌, ◌-◌, ◌<◌, ◌≤�
 use Rattle.std.proofs.lemmas.Bool.{ne_eqb, eq-eqb, lt-ltb, le-ltb}
 use Rattle.orderings.specs.declared.bags.entry.Entry.{Entry}
 use Rattle.orderings.specs.Forest.{Forest, winner, linked, under, risen, upd}
-use Rattle.orderings.specs.Store.{empty, entries, contents, forest, frames}
+use Rattle.orderings.specs.Store.{empty, contents, forest, frames}
+use Rattle.orderings.specs.Table.{entries}
 use Rattle.orderings.proofs.Entries.{table_at, table_set, with_parent, with_rank, parent_set, rank_set, frames_kept}
-use Rattle.orderings.proofs.bags.store.Store.link.Goals as goal
+use Rattle.orderings.proofs.bags.store.Table+Entry.link.Goals as goal
 
 -- the ways to link two elements
 module _ (f : Forest) (a b : ℕ) (na : a ≢ 0) (nb : b ≢ 0) where
@@ -14,22 +15,17 @@ module _ (f : Forest) (a b : ℕ) (na : a ≢ 0) (nb : b ≢ 0) where
   over_wins : f.rank b ≤ f.rank a → (winner f a b ≡ a) × (linked f a b ≡ risen f a b)
   over_wins l = let x = ne_eqb a 0 na in let y = ne_eqb b 0 nb in let z = le-ltb (f.rank a) (f.rank b) l in (rw (x, y, z), rw (x, y, z))
 
-pub returns-then-ours-theirs : goal.returns-then-ours-theirs
-returns-then-ours-theirs c =
+pub returns-then-ours-theirs-clause-bags : goal.returns-then-ours-theirs-clause-bags
+returns-then-ours-theirs-clause-bags c =
     let s = c.args.self.now in
     let a = c.args.a in
     let b = c.args.b in
     let es : List Entry = entries s in
-    let ra = ap (λ (x : Entry). x.rank) (table_at s.main s.table.now a (omega arith)) in
-    let rb = ap (λ (x : Entry). x.rank) (table_at s.main s.table.now b (omega arith)) in
+    let ra = ap (λ (x : Entry). x.rank) (table_at s.main s.lent.now a (omega arith)) in
+    let rb = ap (λ (x : Entry). x.rank) (table_at s.main s.lent.now b (omega arith)) in
     let way = under_wins (forest es) a b c.if-a-eq0.false c.if-b-eq0.false (omega arith) in
-    let put = table_set s.main s.table.now a (with_parent b) (omega arith) in
-    record {
-      answer = sym way.0;
-      bags = ap contents put ∙ parent_set es a (omega arith) b ∙ (λ j. record { forest = sym way.1 j; bag = (contents es).bag; head = (contents es).head });
-      scopes = ap frames put ∙ frames_kept es a _ (omega arith) refl refl refl;
-      size = simp length-set;
-    }
+    let put = table_set s.main s.lent.now a (with_parent b) (omega arith) in
+    ap contents put ∙ parent_set es a (omega arith) b ∙ (λ j. record { forest = sym way.1 j; bag = (contents es).bag; head = (contents es).head })
 
 pub returns-then-ours-theirs-2 : goal.returns-then-ours-theirs-2
 returns-then-ours-theirs-2 c =
@@ -37,7 +33,7 @@ returns-then-ours-theirs-2 c =
     let a = c.args.a in
     let b = c.args.b in
     let m = s.main in
-    let t : List Entry = s.table.now in
+    let t : List Entry = s.lent.now in
     let u : List Entry = set t (b - 1) (with_parent a (get_or t (b - 1) empty)) in
     let es : List Entry = entries s in
     let len : length u ≡ length t = length-set t (b - 1) _ in
@@ -59,21 +55,16 @@ returns-then-ours-theirs-2 c =
       size = simp length-set;
     }
 
-pub returns-else-ours-theirs-2 : goal.returns-else-ours-theirs-2
-returns-else-ours-theirs-2 c =
+pub returns-else-ours-theirs-2-clause-bags : goal.returns-else-ours-theirs-2-clause-bags
+returns-else-ours-theirs-2-clause-bags c =
     let s = c.args.self.now in
     let a = c.args.a in
     let b = c.args.b in
     let es : List Entry = entries s in
-    let ra = ap (λ (x : Entry). x.rank) (table_at s.main s.table.now a (omega arith)) in
-    let rb = ap (λ (x : Entry). x.rank) (table_at s.main s.table.now b (omega arith)) in
+    let ra = ap (λ (x : Entry). x.rank) (table_at s.main s.lent.now a (omega arith)) in
+    let rb = ap (λ (x : Entry). x.rank) (table_at s.main s.lent.now b (omega arith)) in
     let way = over_wins (forest es) a b c.if-a-eq0.false c.if-b-eq0.false (omega arith) in
     let odd = ne_eqb ((forest es).rank a) ((forest es).rank b) (omega arith) in
-    let put = table_set s.main s.table.now b (with_parent a) (omega arith) in
+    let put = table_set s.main s.lent.now b (with_parent a) (omega arith) in
     let risen-is : risen (forest es) a b ≡ under (forest es) b a = rw odd in
-    record {
-      answer = sym way.0;
-      bags = ap contents put ∙ parent_set es b (omega arith) a ∙ (λ j. record { forest = sym (way.1 ∙ risen-is) j; bag = (contents es).bag; head = (contents es).head });
-      scopes = ap frames put ∙ frames_kept es b _ (omega arith) refl refl refl;
-      size = simp length-set;
-    }
+    ap contents put ∙ parent_set es b (omega arith) a ∙ (λ j. record { forest = sym (way.1 ∙ risen-is) j; bag = (contents es).bag; head = (contents es).head })
