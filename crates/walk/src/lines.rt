@@ -5,7 +5,7 @@ ghost use Rattle.walk.specs.Words.{totals_text, summary_text};
 
 use crate::calls::{NUMBERS, RECORDS};
 use crate::steps::{Step, Walk};
-use crate::words::{Deed, Named, Scope, plural};
+use crate::words::{Counted, Deed, Named, Scope};
 use conversation::Ending;
 use orderings::{Kind, Told, Word};
 use rules::Rule;
@@ -126,16 +126,18 @@ impl fmt::Display for Totals {
     ghost output = { λ totals. Some (totals_text totals.0) };
 
     fn fmt<W: fmt::Write>(&self, f: &mut fmt::Formatter<W>) -> fmt::Result {
-        let Counts {
-            accesses,
-            clashes,
-            scopes,
-        } = self.0;
-        let access = plural(accesses, "access", "accesses");
-        let scope = plural(scopes, "scope", "scopes");
-        write!(f, "{accesses} {access}, ")?;
-        write!(f, "{clashes} with a clash, ")?;
-        write!(f, "{scopes} {scope} begun")
+        let accesses = Counted {
+            number: self.0.accesses,
+            one: "access",
+            many: "accesses",
+        };
+        let clashes = self.0.clashes;
+        let scopes = Counted {
+            number: self.0.scopes,
+            one: "scope",
+            many: "scopes",
+        };
+        write!(f, "{accesses}, {clashes} with a clash, {scopes} begun")
     }
 }
 

@@ -1,6 +1,6 @@
 //! The words for tasks, scopes and actions.
 ghost use Rattle.std.specs.Prelude.{◌≡◌, ◌==◌, cond, Some};
-ghost use Rattle.walk.specs.Words.{task_name, scope_name};
+ghost use Rattle.walk.specs.Words.{task_name, scope_name, counted};
 
 use orderings::Kind;
 use rules::Rule;
@@ -44,10 +44,28 @@ impl fmt::Display for Scope {
 }
 
 /// The word for one thing or for several.
-pub(crate) fn plural(number: u32, one: &'static str, many: &'static str) -> &'static str
+fn plural(number: u32, one: &'static str, many: &'static str) -> &'static str
     ensures { result.now ≡ cond (number == 1) one.now many.now }
 {
     if number == 1 { one } else { many }
+}
+
+/// A number of things, with the word for one thing or for several.
+#[derive(Drop)]
+pub(crate) struct Counted {
+    pub(crate) number: u32,
+    pub(crate) one: &'static str,
+    pub(crate) many: &'static str,
+}
+
+impl fmt::Display for Counted {
+    ghost output = { λ things. Some (counted things.number things.one.now things.many.now) };
+
+    fn fmt<W: fmt::Write>(&self, f: &mut fmt::Formatter<W>) -> fmt::Result {
+        let number = self.number;
+        let word = plural(number, self.one, self.many);
+        write!(f, "{number} {word}")
+    }
 }
 
 /// The fields whose bits are set in a mask of four bits.
