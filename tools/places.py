@@ -108,7 +108,7 @@ def point5():
     clauses, pairs = defaultdict(set), defaultdict(set)
     for f in functions():
         for clause in f.clauses:
-            clauses[' '.join(clause.replace('.old', '.now').split())].add(f.where())
+            clauses[' '.join(clause.replace('.now', '.old').split())].add(f.where())
         for pair in itertools.combinations(f.parameters, 2):
             if 'self' not in pair:
                 pairs[pair].add(f.where())

@@ -30,6 +30,7 @@ fn answers<R: ClashRule>(
     let mut rows = [Row::EMPTY; 16];
     let mut bags = Bags::new(table);
     assert!(rt; converse(&mut bags, rule, &mut rows, limit, exchanges).is_ok());
+    // Two slices, since `converse` takes calls by themselves.
     for (exchange, want) in exchanges.iter().zip(wanted.iter()) {
         assert_eq!(rt; exchange.reply.map_err(numbers), *want);
     }

@@ -28,7 +28,7 @@ fn start_refuses_rows_limit_and_scopes_begun(rt: HostRuntime) {
     assert_eq!(rt; start(&bags, &mut rows, 10), Err(27));
 }
 
-/// An access of a class to a record, by a finish in main, where the row of record 1 of two was changed after the start: what it finds, or the
+/// An access of a class to a record, by main within a finish, where the row of record 1 of two was changed after the start: what it finds, or the
 /// number by which it is refused.
 fn access(row: Row, class: u32, record: u32) -> Result<Option<(u32, u32)>, u8> {
     let mut table = [Entry::EMPTY; 2];

@@ -3,6 +3,7 @@ ghost use Rattle.std.specs.Prelude.{◌≡◌, ◌^◌, ◌<◌, ◌≤◌, leng
 ghost use Rattle.frames.specs.Digits.{digit_of, is_digit, value, number, digit_for, digits};
 
 /// The value of a digit: none of another character.
+// Not by `to_digit` or `from_str_radix`: these take small letters too.
 pub fn digit(byte: u8) -> Option<u8>
     ensures { result ≡ digit_of byte }
 {
@@ -41,7 +42,7 @@ pub(crate) fn number(digits: &[u8]) -> u32
     number
 }
 
-// The character of a digit.
+// The character of a digit. Not by `{:X}`, since the line goes into a lent buffer, and a formatter wants a writer.
 fn digit_char(value: u8) -> u8
     requires { value < 16 }
     ensures { result ≡ digit_for value }

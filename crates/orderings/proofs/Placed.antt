@@ -1,5 +1,6 @@
 -- What scopes in their frames and tasks at their places mean: what is asked of them, and the steps.
-use Rattle.std.proofs.Common.{◌≡◌, ℕ, ◌+◌, ◌-◌, ◌<◌, ◌≤◌, min, false, eqb, leb, ◌≢◌, List, [], ◌∷◌, ◌++◌, length, Some, None, Ok, Err, sym, refl, ap, ◌∙◌, ⊎_elim, arith}
+use Rattle.std.specs.Bool.{then_some}
+use Rattle.std.proofs.Common.{◌≡◌, ℕ, ◌+◌, ◌-◌, ◌<◌, ◌≤◌, min, Bool, true, false, ltb, ltb-true, ltb-false, eqb, leb, ◌≢◌, List, [], ◌∷◌, ◌++◌, length, Some, None, Ok, Err, sym, refl, ap, ◌∙◌, ⊎_elim, arith}
 use mathlib.Core.List.{map-map}
 use Rattle.std.proofs.lemmas.Bool.{ne_eqb, cond-false, lt-leb}
 use Rattle.std.proofs.lemmas.List.{length-map}
@@ -32,15 +33,23 @@ module _ (fr : Frames) (place : ℕ → Place) (n t : ℕ) where
   pub asked_task : t < n → fr.kind t ≡ Task → asked (scopes_begun fr place n) t ≡ Ok (word (place t))
   asked_task l e = ap word_of (at_some (λ x. begun_at (fr.kind x) (place x)) n t l ∙ ap (λ (k : Kind). Some (begun_at k (place t))) e)
 
-  pub kind_some : t < n → kind_at (scopes_begun fr place n) t ≡ Some (fr.kind t)
+  kind_some : t < n → kind_at (scopes_begun fr place n) t ≡ Some (fr.kind t)
   kind_some l = ap kind (at_some (λ x. begun_at (fr.kind x) (place x)) n t l) ∙ same (fr.kind t)
     where
       same : (k : Kind) → kind (Some (begun_at k (place t))) ≡ Some k
       same Task = refl
       same Finish = refl
 
-  pub kind_none : n ≤ t → kind_at (scopes_begun fr place n) t ≡ None
+  kind_none : n ≤ t → kind_at (scopes_begun fr place n) t ≡ None
   kind_none l = ap kind (at_none (λ x. begun_at (fr.kind x) (place x)) n t l)
+
+  -- the kind of a number, told where a scope of that number was begun
+  pub kind_told : (k : Kind) → (t < n → k ≡ fr.kind t) → then_some (ltb t n) k ≡ kind_at (scopes_begun fr place n) t
+  kind_told k e = go (ltb t n) refl
+    where
+      go : (b : Bool) → ltb t n ≡ b → then_some b k ≡ kind_at (scopes_begun fr place n) t
+      go true q = let l = ltb-true t n q in ap Some (e l) ∙ sym (kind_some l)
+      go false q = sym (kind_none (ltb-false t n q))
 
 -- the step of an open: the tasks begun before keep their places, and a new one is before at itself
 pub placed_open :

@@ -1,6 +1,5 @@
 -- The number of each refusal of an ordering, and what it says in words.
-use Rattle.std.specs.Prelude.{ℕ, List}
-use lib.Chars.{codes}
+use Rattle.std.specs.Prelude.{ℕ, List, codes}
 use Rattle.refusals.specs.declared.Code.{Code}
 use Rattle.refusals.specs.declared.Layer.TheVariants.{Ordering}
 use Rattle.orderings.specs.declared.words.Fault.{Fault}

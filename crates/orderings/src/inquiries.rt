@@ -53,6 +53,7 @@ pub fn inquire<O: Ordering>(ordering: &mut O, inquiries: &mut [Inquiry])
     ensures inquired { O.Ordering.sound ordering.old →
         Inquired (O.Ordering.meaning ordering.old) inquiries.new (O.Ordering.meaning ordering.new) }
 {
+    // A conversation has this loop too, over calls: one function for both would take a closure, and need its clauses.
     for inquiry in inquiries.iter_mut() {
         inquiry.reply = put(ordering, inquiry.call);
     }

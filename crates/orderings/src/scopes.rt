@@ -65,6 +65,7 @@ impl Scopes {
         Ok(Scopes {
             numbers: self.numbers,
             begun: self.begun,
+            // Any number is safe: a later scope lies outward of none.
             inner: outward.min(self.inner),
             count: self.count - 1,
         })

@@ -1,6 +1,5 @@
 -- The number and the name of each layer.
-use Rattle.std.specs.Prelude.{ℕ, List}
-use lib.Chars.{codes}
+use Rattle.std.specs.Prelude.{ℕ, List, codes}
 use Rattle.refusals.specs.declared.Layer.{Layer}
 use Rattle.refusals.specs.declared.Layer.TheVariants.{Line, Frame, Check, Ordering}
 

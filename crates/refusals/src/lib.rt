@@ -44,6 +44,7 @@ impl fmt::Display for Layer {
 }
 
 /// The number of a refusal, and the layer that refuses.
+// Each error gives its own by a method `code`, and not by `From`: it is not what the error is, but what it is known by.
 #[derive(Clone, Copy, Debug, PartialEq, Eq)]
 pub struct Code {
     pub number: u8,

@@ -1,6 +1,5 @@
 -- What each refusal of a row says.
-use lib.Chars.{codes}
-use Rattle.std.specs.Prelude.{ℕ, List}
+use Rattle.std.specs.Prelude.{ℕ, List, codes}
 use Rattle.rows.specs.declared.words.RowFault.{RowFault}
 use Rattle.rows.specs.declared.words.RowFault.TheVariants.{Full, Damaged}
 

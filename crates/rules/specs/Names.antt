@@ -1,6 +1,5 @@
 -- The names of the rules, as plans have them.
-use Rattle.std.specs.Prelude.{ℕ, List}
-use lib.Chars.{codes}
+use Rattle.std.specs.Prelude.{ℕ, List, codes}
 use Rattle.rules.specs.declared.Rule.{Rule}
 use Rattle.rules.specs.declared.Rule.TheVariants.{Plain, Depot, Field}
 

@@ -17,6 +17,7 @@ use std::fmt;
 #[cfg(test)]
 mod tests;
 
+// Numbers and no enum: each rule has classes of its own, and answers for any number.
 /// The class of an access that reads, under the plain and the depot rule.
 pub const READ: u32 = 0;
 /// The class of an access that writes, under the plain and the depot rule.
@@ -198,7 +199,7 @@ impl fmt::Display for Rule {
     }
 }
 
-// By a `match` in each call: a function that handed out the rule held, as a `dyn`, would be refused.
+// By a `match` in each call: the gate refuses a function that hands out a `dyn`, as that of the rule held would be.
 impl ClashRule for Rule {
     ghost number = { number_of };
 

@@ -24,6 +24,7 @@ impl Reader<'_> {
         let start = *self;
         let mut number = 0;
         while let Some(digit) = self.next_as(decimal_value) {
+            // One test, where `checked_mul` and `checked_add` make two.
             if number > (u32::MAX - digit) / 10 {
                 return Err(start.misread(Reason::TooLarge));
             }

@@ -5,6 +5,7 @@ ghost use Rattle.std.specs.List.{starts_with};
 use crate::words::{Misread, Reason};
 
 /// A text, and the place up to which it has been read.
+// A place and not the rest alone, since a fault is told by its place.
 #[derive(Clone, Copy)]
 pub(crate) struct Reader<'t> {
     pub(crate) text: &'t [u8],

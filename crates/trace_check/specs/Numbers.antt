@@ -1,6 +1,5 @@
 -- The number and the layer of each refusal, and what it says in words.
-use Rattle.std.specs.Prelude.{ℕ, List}
-use lib.Chars.{codes}
+use Rattle.std.specs.Prelude.{ℕ, List, codes}
 use Rattle.refusals.specs.declared.Code.{Code}
 use Rattle.refusals.specs.declared.Layer.TheVariants.{Check}
 use Rattle.orderings.specs.Numbers.{fault_code, fault_text}

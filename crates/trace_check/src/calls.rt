@@ -1,5 +1,4 @@
 //! The calls of a check. What they promise of the ordering's meaning, they promise where the ordering is sound.
-//! The ordering, the rule and the rows are the owner's. They are no struct: each call is handed those that it takes.
 ghost use Rattle.std.specs.Prelude.{◌≡◌, ℕ, ◌<◌, length, Ok, Err, IfOk};
 ghost use Rattle.orderings.specs.Meaning.{opening, closing, after_open, after_close};
 ghost use Rattle.trace_check.specs.View.{InOrder};
@@ -11,6 +10,7 @@ use orderings::{Kind, Ordering};
 use rows::Row;
 use rules::ClashRule;
 
+// The ordering, the rule and the rows are the owner's. They are no struct: each call is handed those that it takes.
 impl Check {
     /// Begins a check on an ordering that has begun nothing but main, and fills the rows with zeros.
     pub fn start<O: Ordering>(ordering: &O, rows: &mut [Row], limit: u32) -> Result<Check, Refusal>
@@ -116,6 +116,7 @@ impl Check {
         if !rule.knows(class) {
             return Err(Refusal::UnknownClass);
         }
+        // Not by `get_mut`, which says nothing of the rows afterwards.
         let row = &mut rows[record as usize];
         let found = row.access(ordering, rule, self.events, class)?;
         self.events += 1;

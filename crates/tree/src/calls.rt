@@ -98,7 +98,7 @@ impl Tree<'_> {
         }
     }
 
-    // Apart from the ordering's `open`, whose clauses begin with soundness: here every value is sound.
+    // Apart from the ordering's `open`, whose clauses begin with soundness: here every value is sound. So `close_scope` too.
     pub(crate) fn open_scope(&mut self, kind: Kind) -> Result<u32, Fault>
         ensures answer { result ≡ opening (meaning_of self.old) }
         ensures after { meaning_of self.new ≡ after_open kind (meaning_of self.old) }

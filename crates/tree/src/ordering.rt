@@ -25,6 +25,7 @@ impl<'t> Ordering for Tree<'t> {
     }
 
     fn innermost_task(&self) -> u32 {
+        // In bags and tree alike, since the table knows no entry's tasks.
         self.node(self.scopes.innermost()).within
     }
 
@@ -33,12 +34,8 @@ impl<'t> Ordering for Tree<'t> {
     }
 
     fn kind_of(&self, number: u32) -> Option<Kind> {
-        // Not by `then`: its closure would need a contract written out. Nor in `Table`, which knows no entry's kind.
-        if number < self.scopes.begun() {
-            Some(self.node(number).kind)
-        } else {
-            None
-        }
+        // In bags and tree alike, since the table knows no entry's kind.
+        (number < self.scopes.begun()).then_some(self.nodes.entry(number).kind)
     }
 
     fn begun(&self) -> u32 {

@@ -30,7 +30,7 @@ impl Step {
     }
 }
 
-/// The number that a reply tells.
+/// The number that a reply tells, 0 where it tells none, as the definition of the steps has it.
 fn number_told(reply: Result<Reply, Refusal>) -> u32
     ensures { result ≡ number_told reply }
 {

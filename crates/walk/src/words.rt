@@ -3,7 +3,7 @@ ghost use Rattle.std.specs.Prelude.{◌≡◌, ◌==◌, cond, Some};
 ghost use Rattle.walk.specs.Words.{task_name, scope_name, counted};
 
 use orderings::Kind;
-use rules::Rule;
+use rules::{ADD, READ, Rule, WRITE};
 use shorthand::Action;
 use std::fmt;
 
@@ -131,9 +131,9 @@ fn access<W: fmt::Write>(
                 "accesses record {record} with class {class:02X} ({fields})"
             )
         }
-        (_, 0) => write!(f, "reads record {record}"),
-        (_, 1) => write!(f, "writes record {record}"),
-        (_, 2) => write!(f, "adds to record {record}"),
+        (_, READ) => write!(f, "reads record {record}"),
+        (_, WRITE) => write!(f, "writes record {record}"),
+        (_, ADD) => write!(f, "adds to record {record}"),
         _ => write!(f, "accesses record {record} with class {class:02X}"),
     }
 }

@@ -5,7 +5,8 @@ use crate::words::Kind;
 
 /// One entry of the table lent to [`Bags`](crate::Bags): a scope, and the element of its own number in the forest of bags.
 /// The bags of scope s have the numbers 2 s, its S bag, and 2 s + 1, its P bag.
-// Entries name one another by number, 0 for none: the table is fixed memory that the caller lends, and nothing is allocated.
+// Entries name one another by number: the table is fixed memory that the caller lends, and nothing is allocated. 0 is none, and a bag is one
+// number, since an `Option` or a pair would make each entry longer.
 #[derive(Clone, Copy)]
 pub struct Entry {
     pub(crate) kind: Kind,

@@ -26,6 +26,7 @@ impl<'t> Ordering for Bags<'t> {
     }
 
     fn innermost_task(&self) -> u32 {
+        // In bags and tree alike, since the table knows no entry's tasks.
         self.store.at(self.scopes.innermost()).within
     }
 
@@ -34,12 +35,8 @@ impl<'t> Ordering for Bags<'t> {
     }
 
     fn kind_of(&self, number: u32) -> Option<Kind> {
-        // Not by `then`: its closure would need a contract written out. Nor in `Table`, which knows no entry's kind.
-        if number < self.scopes.begun() {
-            Some(self.store.at(number).kind)
-        } else {
-            None
-        }
+        // In bags and tree alike, since the table knows no entry's kind.
+        (number < self.scopes.begun()).then_some(self.store.entry(number).kind)
     }
 
     fn begun(&self) -> u32 {
