@@ -1,6 +1,6 @@
 //! The calls of the tree.
-ghost use Rattle.std.specs.Prelude.{◌≡◌, ◌<◌, min, length, Ok, Err};
-ghost use Rattle.orderings.specs.Meaning.{new as fresh, opening, after_open, closing, after_close, asked};
+ghost use Rattle.std.specs.Prelude.{◌≡◌, ◌<◌, min, length, Ok};
+ghost use Rattle.orderings.specs.Meaning.{new as fresh, asked};
 ghost use Rattle.orderings.specs.Table.{entries};
 ghost use Rattle.tree.specs.Nodes.{node_at, marks, jump_under};
 ghost use Rattle.tree.specs.ProgramTree.{meaning as meaning_of, Closed, side_of, Query, OpenAbove, Within48, Within3Log};
@@ -84,7 +84,7 @@ impl Tree<'_> {
     }
 
     // The jump of a new child of the innermost scope: past two jumps of one length, else to that scope.
-    fn next_jump(&self) -> u32
+    pub(crate) fn next_jump(&self) -> u32
         ensures { result ≡ jump_under (marks (entries self.now.nodes)) self.now.scopes.inner }
     {
         let inner = self.scopes.innermost();
@@ -96,51 +96,5 @@ impl Tree<'_> {
         } else {
             inner
         }
-    }
-
-    // Apart from the ordering's `open`, whose clauses begin with soundness: here every value is sound. So `close_scope` too.
-    pub(crate) fn open_scope(&mut self, kind: Kind) -> Result<u32, Fault>
-        ensures answer { result ≡ opening (meaning_of self.old) }
-        ensures after { meaning_of self.new ≡ after_open kind (meaning_of self.old) }
-        ensures refused { (f : Fault) → result ≡ Err f → self.new ≡ self.old }
-    {
-        let parent = self.scopes.innermost();
-        let scopes = self.scopes.opened()?;
-        let number = scopes.innermost();
-        let above = self.node(parent);
-        let within = scopes.within(kind, above.within);
-        let jump = self.next_jump();
-        self.nodes.set_entry(
-            number,
-            Node {
-                kind,
-                live: true,
-                parent,
-                within,
-                depth: above.depth + 1,
-                jump,
-            },
-        );
-        self.scopes = scopes;
-        Ok(number)
-    }
-
-    pub(crate) fn close_scope(&mut self) -> Result<u32, Fault>
-        ensures answer { result ≡ closing (meaning_of self.old) }
-        ensures after { meaning_of self.new ≡ after_close (meaning_of self.old) }
-        ensures refused { (f : Fault) → result ≡ Err f → self.new ≡ self.old }
-    {
-        let number = self.scopes.innermost();
-        let node = self.node(number);
-        let scopes = self.scopes.closed(node.parent)?;
-        self.nodes.set_entry(
-            number,
-            Node {
-                live: false,
-                ..node
-            },
-        );
-        self.scopes = scopes;
-        Ok(number)
     }
 }

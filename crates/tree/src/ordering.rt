@@ -3,6 +3,7 @@ ghost use Rattle.tree.specs.Formation.{formed_tree};
 ghost use Rattle.tree.specs.ProgramTree.{meaning as meaning_of};
 
 use crate::Tree;
+use crate::node::Node;
 use orderings::{Fault, Kind, Ordering, Word};
 
 impl<'t> Ordering for Tree<'t> {
@@ -13,11 +14,40 @@ impl<'t> Ordering for Tree<'t> {
     ghost formed = { λ x _. formed_tree x };
 
     fn open(&mut self, kind: Kind) -> Result<u32, Fault> {
-        self.open_scope(kind)
+        let parent = self.scopes.innermost();
+        let scopes = self.scopes.opened()?;
+        let number = scopes.innermost();
+        let above = self.node(parent);
+        let within = scopes.within(kind, above.within);
+        let jump = self.next_jump();
+        self.nodes.set_entry(
+            number,
+            Node {
+                kind,
+                live: true,
+                parent,
+                within,
+                depth: above.depth + 1,
+                jump,
+            },
+        );
+        self.scopes = scopes;
+        Ok(number)
     }
 
     fn close(&mut self) -> Result<u32, Fault> {
-        self.close_scope()
+        let number = self.scopes.innermost();
+        let node = self.node(number);
+        let scopes = self.scopes.closed(node.parent)?;
+        self.nodes.set_entry(
+            number,
+            Node {
+                live: false,
+                ..node
+            },
+        );
+        self.scopes = scopes;
+        Ok(number)
     }
 
     fn ask(&mut self, task: u32) -> Result<Word, Fault> {

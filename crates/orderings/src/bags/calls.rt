@@ -1,7 +1,7 @@
 //! The calls of the bags.
-ghost use Rattle.std.specs.Prelude.{◌≡◌, ◌<◌, min, length, Err};
+ghost use Rattle.std.specs.Prelude.{◌≡◌, ◌<◌, min, length};
 ghost use Rattle.orderings.specs.Forest.{root as root_of, Shallow};
-ghost use Rattle.orderings.specs.Meaning.{new as fresh, opening, after_open, closing, after_close, asked};
+ghost use Rattle.orderings.specs.Meaning.{new as fresh, asked};
 ghost use Rattle.orderings.specs.Store.{forest};
 ghost use Rattle.orderings.specs.Table.{entries};
 ghost use Rattle.orderings.specs.Bags.{meaning as meaning_of};
@@ -67,47 +67,5 @@ impl Bags<'_> {
             at = parent;
         }
         unreachable()
-    }
-
-    /// Begins a scope of a kind within the innermost open scope.
-    // Apart from the ordering's `open`, whose clauses begin with soundness: here every value is sound. So `close_scope` too.
-    pub(crate) fn open_scope(&mut self, kind: Kind) -> Result<u32, Fault>
-        ensures answer { result ≡ opening (meaning_of self.old) }
-        ensures after { meaning_of self.new ≡ after_open kind (meaning_of self.old) }
-        ensures refused { (f : Fault) → result ≡ Err f → self.new ≡ self.old }
-    {
-        let outward = self.scopes.innermost();
-        let scopes = self.scopes.opened()?;
-        let number = scopes.innermost();
-        let within = scopes.within(kind, self.store.at(outward).within);
-        self.store.set_entry(
-            number,
-            Entry {
-                kind,
-                rank: 0,
-                parent: number,
-                bag: 2 * number,
-                outward,
-                within,
-                serial: number,
-                parallel: 0,
-            },
-        );
-        self.scopes = scopes;
-        Ok(number)
-    }
-
-    /// Closes the innermost open scope, and gives its number.
-    pub(crate) fn close_scope(&mut self) -> Result<u32, Fault>
-        ensures answer { result ≡ closing (meaning_of self.old) }
-        ensures after { meaning_of self.new ≡ after_close (meaning_of self.old) }
-        ensures refused { (f : Fault) → result ≡ Err f → self.new ≡ self.old }
-    {
-        let number = self.scopes.innermost();
-        let outward = self.store.at(number).outward;
-        let scopes = self.scopes.closed(outward)?;
-        self.store.pour_out(number);
-        self.scopes = scopes;
-        Ok(number)
     }
 }

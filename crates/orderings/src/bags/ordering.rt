@@ -3,6 +3,7 @@ ghost use Rattle.orderings.specs.Bags.{meaning as meaning_of};
 ghost use Rattle.orderings.specs.Formation.{formed_bags};
 
 use crate::bags::Bags;
+use crate::bags::entry::Entry;
 use crate::ordering::Ordering;
 use crate::words::{Fault, Kind, Word};
 
@@ -14,11 +15,34 @@ impl<'t> Ordering for Bags<'t> {
     ghost formed = { λ x _. formed_bags x };
 
     fn open(&mut self, kind: Kind) -> Result<u32, Fault> {
-        self.open_scope(kind)
+        let outward = self.scopes.innermost();
+        let scopes = self.scopes.opened()?;
+        let number = scopes.innermost();
+        let within = scopes.within(kind, self.store.at(outward).within);
+        self.store.set_entry(
+            number,
+            Entry {
+                kind,
+                rank: 0,
+                parent: number,
+                bag: 2 * number,
+                outward,
+                within,
+                serial: number,
+                parallel: 0,
+            },
+        );
+        self.scopes = scopes;
+        Ok(number)
     }
 
     fn close(&mut self) -> Result<u32, Fault> {
-        self.close_scope()
+        let number = self.scopes.innermost();
+        let outward = self.store.at(number).outward;
+        let scopes = self.scopes.closed(outward)?;
+        self.store.pour_out(number);
+        self.scopes = scopes;
+        Ok(number)
     }
 
     fn ask(&mut self, task: u32) -> Result<Word, Fault> {

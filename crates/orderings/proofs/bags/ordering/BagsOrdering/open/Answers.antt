@@ -14,7 +14,7 @@ use Rattle.orderings.proofs.Fresh.{fresh, sound_opened, meaning_opened}
 use Rattle.orderings.proofs.Numbers.{at_numbers, begun_few}
 use Rattle.orderings.proofs.Placed.{opening_placed}
 use Rattle.orderings.proofs.Tables.{kept_size}
-use Rattle.orderings.proofs.bags.Bags.open_scope.Goals as goal
+use Rattle.orderings.proofs.bags.ordering.BagsOrdering.open.Goals as goal
 
 -- the entry of the new scope, in the words of the scopes before
 module _ (b : Bags) (k : Kind) (now : Scopes) (o : Opened b.scopes now) (number outward within : ℕ) (above : Entry) (number-is : number ≡ now.inner) (outward-is : outward ≡ b.scopes.inner) (above-is : above ≡ entry_at (entries b.store) outward)
@@ -60,14 +60,14 @@ invariant_of-self c =
     }
 
 pub returns-clause-answer : goal.returns-clause-answer
-returns-clause-answer c =
+returns-clause-answer c = λ _.
     let b = c.args.self.now in
     let o = c.in_ok-scopes.ensures in
     let es : List Entry = entries b.store in
     sym ((opening_placed (frames es) (place_of (contents es)) (length b.store.lent.now) b.scopes.begun b.scopes.inner c.args.kind (omega arith)).0 ∙ ap (λ (j : ℕ). Ok j) (sym (c.innermost-number.ensures ∙ o.inner)))
 
 pub returns-clause-after : goal.returns-clause-after
-returns-clause-after c =
+returns-clause-after c = λ _.
     let b = c.args.self.now in
     let o = c.in_ok-scopes.ensures in
     meaning_open b c.args.kind c.in_ok-scopes.scopes o _ _ _ c.at.result c.innermost-number.ensures c.innermost-outward.ensures c.at.ensures c.within-within.ensures _ c.set_entry.ensures _ (kept_size b.store c.set_entry.new.self _ _ c.set_entry.ensures)

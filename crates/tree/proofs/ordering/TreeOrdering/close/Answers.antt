@@ -13,7 +13,7 @@ use Rattle.tree.specs.ProgramTree.{tree, place_of, meaning}
 use Rattle.tree.specs.Props.{reveal_tree}
 use Rattle.tree.proofs.Closes.{parent_low, closing_closed}
 use Rattle.tree.proofs.Writes.{shut, tree_shut, placed_shut}
-use Rattle.tree.proofs.Tree.close_scope.Goals as goal
+use Rattle.tree.proofs.ordering.TreeOrdering.close.Goals as goal
 
 -- the innermost open scope, of the number s, closes
 module _ (t : Tree) (now : Scopes) (s : ℕ) (number-is : s ≡ t.scopes.inner) (node : Node) (node-is : node ≡ node_at (entries t.nodes) s) (out : ClosedTo node.parent t.scopes now) where
@@ -59,9 +59,9 @@ invariant_of-self c =
     }
 
 pub returns-clause-answer : goal.returns-clause-answer
-returns-clause-answer c = answer_close c.args.self.now c.in_ok-scopes.scopes _ c.innermost-number.ensures c.node-node.result c.node-node.ensures c.in_ok-scopes.ensures
+returns-clause-answer c = λ _. answer_close c.args.self.now c.in_ok-scopes.scopes _ c.innermost-number.ensures c.node-node.result c.node-node.ensures c.in_ok-scopes.ensures
 
 pub returns-clause-after : goal.returns-clause-after
-returns-clause-after c =
+returns-clause-after c = λ _.
     let t = c.args.self.now in
     meaning_close t c.in_ok-scopes.scopes _ c.innermost-number.ensures c.node-node.result c.node-node.ensures c.in_ok-scopes.ensures _ c.set_entry.ensures _ (kept_size t.nodes c.set_entry.new.self _ _ c.set_entry.ensures)

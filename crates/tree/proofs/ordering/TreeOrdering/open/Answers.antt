@@ -15,7 +15,7 @@ use Rattle.tree.specs.ProgramTree.{tree, place_of, meaning}
 use Rattle.tree.specs.Props.{reveal_tree}
 use Rattle.tree.proofs.Jumps.{leads}
 use Rattle.tree.proofs.Writes.{Fits, tree_opened, placed_opened}
-use Rattle.tree.proofs.Tree.open_scope.Goals as goal
+use Rattle.tree.proofs.ordering.TreeOrdering.open.Goals as goal
 
 -- the node e of the new scope, which the node above tells of
 module _ (t : Tree) (k : Kind) (now : Scopes) (o : Opened t.scopes now) (number parent within jump : ℕ) (above : Node) (number-is : number ≡ now.inner) (parent-is : parent ≡ t.scopes.inner) (above-is : above ≡ node_at (entries t.nodes) parent)
@@ -77,7 +77,7 @@ invariant_of-self c =
     }
 
 pub returns-clause-answer : goal.returns-clause-answer
-returns-clause-answer c =
+returns-clause-answer c = λ _.
     let t = c.args.self.now in
     let o = c.in_ok-scopes.ensures in
     let numbers = t.numbers in
@@ -85,6 +85,6 @@ returns-clause-answer c =
     sym ((opening_placed (tree t) (place_of (tree t) t.scopes.begun t.scopes.inner) (length t.nodes.lent.now) t.scopes.begun t.scopes.inner c.args.kind (omega arith)).0 ∙ ap (λ (j : ℕ). Ok j) (sym (c.innermost-number.ensures ∙ o.inner)))
 
 pub returns-clause-after : goal.returns-clause-after
-returns-clause-after c =
+returns-clause-after c = λ _.
     let t = c.args.self.now in
     meaning_open t c.args.kind c.in_ok-scopes.scopes c.in_ok-scopes.ensures _ _ _ _ c.node-above.result c.innermost-number.ensures c.innermost-parent.ensures c.node-above.ensures c.within-within.ensures c.next_jump-jump.ensures _ c.set_entry.ensures _ (kept_size t.nodes c.set_entry.new.self _ _ c.set_entry.ensures)

@@ -12,7 +12,7 @@ use Rattle.orderings.specs.Props.{reveal}
 use Rattle.orderings.proofs.Closes.{outer_low}
 use Rattle.orderings.proofs.Closing.{sound_after, answer_after, meaning_after}
 use Rattle.orderings.proofs.Numbers.{at_numbers, begun_few, begun_room}
-use Rattle.orderings.proofs.bags.Bags.close_scope.Goals as goal
+use Rattle.orderings.proofs.bags.ordering.BagsOrdering.close.Goals as goal
 
 -- the innermost open scope, of the number s, closes
 module _ (b : Bags) (now : Scopes) (s : ℕ) (number-is : s ≡ b.scopes.inner) (above : Entry) (above-is : above ≡ entry_at (entries b.store) s) (out : ClosedTo above.outward b.scopes now) where
@@ -70,11 +70,11 @@ invariant_of-self c =
     }
 
 pub returns-clause-answer : goal.returns-clause-answer
-returns-clause-answer c =
+returns-clause-answer c = λ _.
     let pours = c.pour_out.ensures in
     answer_close c.args.self.now c.in_ok-scopes.scopes _ c.innermost-number.ensures _ c.at-outward.ensures c.in_ok-scopes.ensures (entries c.pour_out.new.self) pours.bags pours.scopes
 
 pub returns-clause-after : goal.returns-clause-after
-returns-clause-after c =
+returns-clause-after c = λ _.
     let pours = c.pour_out.ensures in
     meaning_close c.args.self.now c.in_ok-scopes.scopes _ c.innermost-number.ensures _ c.at-outward.ensures c.in_ok-scopes.ensures (entries c.pour_out.new.self) pours.bags pours.scopes _ pours.size
