@@ -35,6 +35,7 @@ impl Table<'_, Entry> {
         if b == 0 {
             return a;
         }
+        // One field is written, where `set_entry` would write whole entries.
         let i = a as usize - 1;
         let j = b as usize - 1;
         let ours = self.lent[i].rank;
