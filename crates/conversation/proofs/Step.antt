@@ -31,8 +31,7 @@ use Rattle.orderings.specs.Inquiries.{opens, noted}
 use Rattle.orderings.specs.Questions.{ok_as}
 use Rattle.conversation.specs.Exchanges.{Answer}
 use Rattle.conversation.specs.Replies.{Setting, reply_to, event_of, room_for, first_found, accesses, clashes_found}
-use Rattle.trace_check.specs.View.{View}
-use Rattle.trace_check.specs.Calls.{by_ordering, by_row, one_more, access_answer, one_clash, one_access, access_rows}
+use Rattle.trace_check.specs.Calls.{View, by_ordering, by_row, one_more, access_answer, one_clash, one_access, access_rows}
 use Rattle.trace_check.specs.Puts.{Store, reply_of, left_by}
 use Rattle.conversation.specs.State.{State}
 use Rattle.conversation.proofs.RowsLead.{slot, settle, row, row_leads}

@@ -8,7 +8,7 @@ use Rattle.trace_check.specs.declared.words.Call.{Call}
 use Rattle.conversation.specs.Exchanges.{Answer, Exchange}
 use Rattle.orderings.specs.Inquiries.{noted}
 use Rattle.conversation.specs.Replies.{Setting, reply_to, event_of, after, after_all, events}
-use Rattle.trace_check.specs.View.{View}
+use Rattle.trace_check.specs.Calls.{View}
 use Rattle.trace_check.specs.Puts.{Store, reply_of, left_by}
 use Rattle.conversation.specs.State.{State}
 use Rattle.orderings.proofs.Turns.{InTurn as InTurnOf, one_turn as one_turn_of, after_more}

@@ -17,8 +17,7 @@ use Rattle.conversation.specs.Exchanges.{Exchange}
 use Rattle.trace_check.specs.declared.words.Refusal.TheVariants.{BadStart, AlreadyBegun}
 use Rattle.conversation.specs.Replies.{Setting, events, accesses, clashes_found}
 use Rattle.conversation.specs.Theorem.{RepliesRight}
-use Rattle.trace_check.specs.View.{View}
-use Rattle.trace_check.specs.Calls.{is_between, start_answer, new_check, counted}
+use Rattle.trace_check.specs.Calls.{View, is_between, start_answer, new_check, counted}
 use Rattle.trace_check.specs.Puts.{Store}
 use Rattle.conversation.specs.State.{State}
 use Rattle.conversation.specs.Conversation.{setting, counts, ending, end_answer, Conversation}

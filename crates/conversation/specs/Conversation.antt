@@ -15,8 +15,7 @@ use Rattle.trace_check.specs.declared.words.Refusal.{Refusal}
 use Rattle.conversation.specs.Leaders.{row_of}
 use Rattle.conversation.specs.Replies.{Setting, events, accesses, clashes_found}
 use Rattle.conversation.specs.Theorem.{RepliesRight, Facts}
-use Rattle.trace_check.specs.View.{View}
-use Rattle.trace_check.specs.Calls.{start_answer, new_check, counted}
+use Rattle.trace_check.specs.Calls.{View, start_answer, new_check, counted}
 
 -- the setting of a check that starts on a meaning and rows, under a rule
 abbrev pub setting : ℕ → Meaning → List Row → (ℕ → Bool) → (ℕ → ℕ → Bool) → Setting

@@ -2,6 +2,7 @@
 #![tactic(auto)]
 
 ghost use Rattle.std.specs.Prelude.{◌≡◌, Err};
+ghost use Rattle.trace_check.specs.Calls.{view};
 ghost use Rattle.trace_check.specs.Puts.{store};
 ghost use Rattle.conversation.specs.State.{Ran};
 ghost use Rattle.orderings.specs.Exchanges.{calls_of};
@@ -42,7 +43,7 @@ fn run<O: Ordering, R: ClashRule>(
 /// Takes the verdict, or gives up while a scope besides main is open.
 fn end<O: Ordering>(check: Check, ordering: &O) -> Ending
     ensures { O.Ordering.sound ordering.now →
-        result ≡ end_answer check (O.Ordering.meaning ordering.now) }
+        result ≡ end_answer (view check) (O.Ordering.meaning ordering.now) }
 {
     match check.verdict(ordering) {
         Ok(counts) => Ending::Verdict(counts),

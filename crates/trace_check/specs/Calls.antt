@@ -6,10 +6,20 @@ use Rattle.orderings.specs.Meaning.{Meaning}
 use Rattle.rows.specs.declared.row.Row.{Row}
 use Rattle.rows.specs.declared.words.RowFault.{RowFault}
 use Rattle.rows.specs.Rows.{no_row, zero_row, row_answer, row_after}
-use Rattle.trace_check.specs.View.{View}
+use Rattle.trace_check.specs.declared.state.Check.{Check}
 use Rattle.trace_check.specs.declared.words.Counts.{Counts}
 use Rattle.trace_check.specs.declared.words.Refusal.{Refusal}
 use Rattle.trace_check.specs.declared.words.Refusal.TheVariants.{BadStart, AlreadyBegun, LimitReached, NoSuchRecord, UnknownClass, ScopeOpen, Row as RowRefuses, Order}
+
+-- what a check holds, without its invariant
+pub record View : Type 0 where
+  pub limit : ℕ
+  pub events : ℕ
+  pub accesses : ℕ
+  pub clashes : ℕ
+
+abbrev pub view : Check → View
+view k = record { limit = k.limit; events = k.events; accesses = k.accesses; clashes = k.clashes }
 
 -- Start: on 1 to 65,536 rows, with a limit of 1 to 1,000,000, and an ordering that has begun main alone.
 abbrev pub new_check : ℕ → View
@@ -24,8 +34,12 @@ start_answer rows limit begun =
     (cond (begun == 1) (Ok (new_check limit)) (Err AlreadyBegun))
     (Err BadStart)
 
+abbrev pub seen : Result Check Refusal → Result View Refusal
+seen (Ok k) = Ok (view k)
+seen (Err e) = Err e
+
 -- an accepted start fills the rows with zeros
-abbrev pub start_rows : Result View Refusal → List Row → List Row
+abbrev pub start_rows : Result Check Refusal → List Row → List Row
 start_rows (Ok k) rows = replicate (length rows) zero_row
 start_rows (Err e) rows = rows
 
@@ -79,5 +93,5 @@ access_rows k m rows c r (Err e) = rows
 abbrev pub counted : View → ℕ → Counts
 counted k scopes = record { accesses = k.accesses; clashes = k.clashes; scopes = scopes }
 
-abbrev pub verdict_answer : View → Meaning → Result Counts (Refusal × View)
-verdict_answer k m = cond (length m.opened == 1) (Ok (counted k (length m.begun))) (Err (ScopeOpen, k))
+abbrev pub verdict_answer : Check → Meaning → Result Counts (Refusal × Check)
+verdict_answer k m = cond (length m.opened == 1) (Ok (counted (view k) (length m.begun))) (Err (ScopeOpen, k))

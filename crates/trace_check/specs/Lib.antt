@@ -1,4 +1,3 @@
-pub mod View
 pub mod Numbers
 pub mod Calls
 pub mod Puts

@@ -5,13 +5,13 @@ use Rattle.orderings.specs.declared.questions.Told.{Told}
 use Rattle.orderings.specs.Meaning.{Meaning, opening, after_open, closing, after_close}
 use Rattle.orderings.specs.Questions.{ok_as, telling}
 use Rattle.rows.specs.declared.row.Row.{Row}
-use Rattle.trace_check.specs.View.{View}
+use Rattle.trace_check.specs.declared.state.Check.{Check}
 use Rattle.trace_check.specs.declared.words.Call.{Call}
 use Rattle.trace_check.specs.declared.words.Call.TheVariants.{Open, Close, Access, Ask}
 use Rattle.trace_check.specs.declared.words.Refusal.{Refusal}
 use Rattle.trace_check.specs.declared.words.Reply.{Reply}
 use Rattle.trace_check.specs.declared.words.Reply.TheVariants.{Opened, Closed, Found, Told as ToldSo}
-use Rattle.trace_check.specs.Calls.{limited, by_ordering, when_room, one_more, access_answer, one_access, access_rows}
+use Rattle.trace_check.specs.Calls.{View, view, limited, by_ordering, when_room, one_more, access_answer, one_access, access_rows}
 
 -- the check, what the ordering means, and the rows
 pub record Store : Type 0 where
@@ -19,8 +19,8 @@ pub record Store : Type 0 where
   pub meaning : Meaning
   pub rows : List Row
 
-abbrev pub store : View → Meaning → List Row → Store
-store k m rows = record { check = k; meaning = m; rows = rows }
+abbrev pub store : Check → Meaning → List Row → Store
+store k m rows = record { check = view k; meaning = m; rows = rows }
 
 -- a question is refused as the ordering refuses
 abbrev pub question_answer : Store → Question → Result Told Refusal

@@ -1,8 +1,7 @@
 //! The calls of a check. What they promise of the ordering's meaning, they promise where the ordering is sound.
-ghost use Rattle.std.specs.Prelude.{◌≡◌, ℕ, ◌<◌, length, Ok, Err, IfOk};
+ghost use Rattle.std.specs.Prelude.{◌≡◌, ℕ, ◌<◌, length, Ok, Err};
 ghost use Rattle.orderings.specs.Meaning.{opening, closing, after_open, after_close};
-ghost use Rattle.trace_check.specs.View.{InOrder};
-ghost use Rattle.trace_check.specs.Calls.{start_answer, start_rows, limited, by_ordering, when_room, one_more, access_answer, one_access, access_rows, verdict_answer, counted};
+ghost use Rattle.trace_check.specs.Calls.{view, seen, start_answer, start_rows, limited, by_ordering, when_room, one_more, access_answer, one_access, access_rows, verdict_answer, counted};
 
 use crate::state::Check;
 use crate::words::{Counts, Refusal};
@@ -15,9 +14,8 @@ impl Check {
     /// Begins a check on an ordering that has begun nothing but main, and fills the rows with zeros.
     pub fn start<O: Ordering>(ordering: &O, rows: &mut [Row], limit: u32) -> Result<Check, Refusal>
         ensures answer { O.Ordering.sound ordering.now →
-            result ≡ start_answer (length rows.old) limit (length (O.Ordering.meaning ordering.now).begun) }
+            seen result ≡ start_answer (length rows.old) limit (length (O.Ordering.meaning ordering.now).begun) }
         ensures rows { rows.new ≡ start_rows result rows.old }
-        ensures in_order { IfOk result InOrder }
     {
         if rows.len() < 1 || rows.len() > 65536 || limit < 1 || limit > 1000000 {
             return Err(Refusal::BadStart);
@@ -37,13 +35,12 @@ impl Check {
     /// Opens a scope of a kind within the innermost open scope, and gives its number.
     pub fn open<O: Ordering>(&mut self, ordering: &mut O, kind: Kind) -> Result<u32, Refusal>
         ensures answer { O.Ordering.sound ordering.old →
-            result ≡ limited self.old (by_ordering (opening (O.Ordering.meaning ordering.old))) }
-        ensures check { self.new ≡ one_more self.old result }
-        ensures in_order { InOrder self.new }
+            result ≡ limited (view self.old) (by_ordering (opening (O.Ordering.meaning ordering.old))) }
+        ensures check { view self.new ≡ one_more (view self.old) result }
         ensures kept { O.Ordering.sound ordering.old → O.Ordering.sound ordering.new }
         ensures after { O.Ordering.sound ordering.old →
             O.Ordering.meaning ordering.new ≡
-            when_room self.old (O.Ordering.meaning ordering.old)
+            when_room (view self.old) (O.Ordering.meaning ordering.old)
             (after_open kind (O.Ordering.meaning ordering.old)) }
         ensures refused { (e : Refusal) → result ≡ Err e → ordering.new ≡ ordering.old }
     {
@@ -57,13 +54,12 @@ impl Check {
     // As `open`, but for what is asked of the ordering: one function for both would take a closure, and need its clauses.
     pub fn close<O: Ordering>(&mut self, ordering: &mut O) -> Result<u32, Refusal>
         ensures answer { O.Ordering.sound ordering.old →
-            result ≡ limited self.old (by_ordering (closing (O.Ordering.meaning ordering.old))) }
-        ensures check { self.new ≡ one_more self.old result }
-        ensures in_order { InOrder self.new }
+            result ≡ limited (view self.old) (by_ordering (closing (O.Ordering.meaning ordering.old))) }
+        ensures check { view self.new ≡ one_more (view self.old) result }
         ensures kept { O.Ordering.sound ordering.old → O.Ordering.sound ordering.new }
         ensures after { O.Ordering.sound ordering.old →
             O.Ordering.meaning ordering.new ≡
-            when_room self.old (O.Ordering.meaning ordering.old)
+            when_room (view self.old) (O.Ordering.meaning ordering.old)
             (after_close (O.Ordering.meaning ordering.old)) }
         ensures refused { (e : Refusal) → result ≡ Err e → ordering.new ≡ ordering.old }
     {
@@ -75,7 +71,7 @@ impl Check {
 
     /// Refused once there are as many events as the limit.
     fn room(&self) -> Result<(), Refusal>
-        ensures { result ≡ limited self.now (Ok tt) }
+        ensures { result ≡ limited (view self.now) (Ok tt) }
     {
         if self.events < self.limit {
             Ok(())
@@ -96,16 +92,15 @@ impl Check {
         ensures answer { O.Ordering.sound ordering.old →
             result ≡
             access_answer (R.ClashRule.known rule.now) (R.ClashRule.clash rule.now)
-            self.old (O.Ordering.meaning ordering.old) rows.old «class»
+            (view self.old) (O.Ordering.meaning ordering.old) rows.old «class»
             «record» }
-        ensures check { self.new ≡ one_access self.old result }
-        ensures in_order { InOrder self.new }
+        ensures check { view self.new ≡ one_access (view self.old) result }
         ensures kept { O.Ordering.sound ordering.old → O.Ordering.sound ordering.new }
         ensures same { O.Ordering.sound ordering.old →
             O.Ordering.meaning ordering.new ≡ O.Ordering.meaning ordering.old }
         ensures rows { O.Ordering.sound ordering.old →
             rows.new ≡
-            access_rows self.old (O.Ordering.meaning ordering.old) rows.old «class»
+            access_rows (view self.old) (O.Ordering.meaning ordering.old) rows.old «class»
             «record» result }
         ensures refused { (e : Refusal) → result ≡ Err e → (ordering.new ≡ ordering.old) × (rows.new ≡ rows.old) }
     {
@@ -129,9 +124,8 @@ impl Check {
 
     /// Takes the verdict. While a scope besides main is open the check is handed back.
     pub fn verdict<O: Ordering>(self, ordering: &O) -> Result<Counts, (Refusal, Check)>
-        ensures answer { O.Ordering.sound ordering.now →
+        ensures { O.Ordering.sound ordering.now →
             result ≡ verdict_answer self (O.Ordering.meaning ordering.now) }
-        ensures in_order { InOrder self }
     {
         if ordering.open_count() != 1 {
             return Err((Refusal::ScopeOpen, self));
@@ -141,9 +135,8 @@ impl Check {
 
     /// Ends the check, whatever is open.
     pub fn give_up<O: Ordering>(self, ordering: &O) -> Counts
-        ensures answer { O.Ordering.sound ordering.now →
-            result ≡ counted self (length (O.Ordering.meaning ordering.now).begun) }
-        ensures in_order { InOrder self }
+        ensures { O.Ordering.sound ordering.now →
+            result ≡ counted (view self) (length (O.Ordering.meaning ordering.now).begun) }
     {
         let Check {
             limit: _,

@@ -1,6 +1,6 @@
 //! One call of any kind, put to a check.
 ghost use Rattle.std.specs.Prelude.{◌≡◌, Err};
-ghost use Rattle.trace_check.specs.View.{InOrder};
+ghost use Rattle.trace_check.specs.Calls.{view};
 ghost use Rattle.trace_check.specs.Puts.{store, reply_of, left_by};
 
 use crate::state::Check;
@@ -24,11 +24,10 @@ impl Check {
             (store self.old (O.Ordering.meaning ordering.old) rows.old) call }
         ensures kept { O.Ordering.sound ordering.old → O.Ordering.sound ordering.new }
         ensures check { O.Ordering.sound ordering.old →
-            self.new ≡
+            view self.new ≡
             (left_by (R.ClashRule.known rule.now) (R.ClashRule.clash rule.now)
             (store self.old (O.Ordering.meaning ordering.old) rows.old) call
             ).check }
-        ensures in_order { InOrder self.new }
         ensures meaning { O.Ordering.sound ordering.old →
             O.Ordering.meaning ordering.new ≡
             (left_by (R.ClashRule.known rule.now) (R.ClashRule.clash rule.now)
@@ -39,10 +38,8 @@ impl Check {
             (left_by (R.ClashRule.known rule.now) (R.ClashRule.clash rule.now)
             (store self.old (O.Ordering.meaning ordering.old) rows.old) call).rows }
         ensures refused { (e : Refusal) → result ≡ Err e →
-            (self.new ≡ self.old) × (ordering.new ≡ ordering.old) × (rows.new ≡ rows.old) }
+            (view self.new ≡ view self.old) × (ordering.new ≡ ordering.old) × (rows.new ≡ rows.old) }
     {
-        // A question leaves the check alone: what holds of it is known where it is looked at.
-        let _ = &self.limit;
         match call {
             Call::Open(kind) => self.open(ordering, kind).map(Reply::Opened),
             Call::Close => self.close(ordering).map(Reply::Closed),
