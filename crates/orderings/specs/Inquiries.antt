@@ -2,7 +2,7 @@
 use Rattle.std.specs.Prelude.{◌≡◌, ℕ, cond, ◌↔◌, List, [], ◌∷◌, length, is_err, Some, None, Ok, Option, Result}
 use Rattle.graph.specs.History.{Event, open_task, open_finish, close, access, History, task}
 use Rattle.graph.specs.Graph.{Closes, Path}
-use Rattle.orderings.specs.declared.exchange.Exchange.{Exchange}
+use Rattle.orderings.specs.declared.exchange.Exchange.{Exchange as ExchangeOf}
 use Rattle.orderings.specs.declared.inquiries.Request.{Request}
 use Rattle.orderings.specs.declared.inquiries.Request.TheVariants.{Open, Close, Ask}
 use Rattle.orderings.specs.declared.inquiries.Response.{Response}
@@ -19,7 +19,7 @@ use Rattle.orderings.specs.Questions.{ok_as, telling}
 
 -- a request, and the response to it
 abbrev pub Inquiry : Type 0
-Inquiry = Exchange Request (Result Response Fault)
+Inquiry = ExchangeOf Request (Result Response Fault)
 
 -- the response to a request, from the meaning before it
 abbrev pub response_to : Meaning → Request → Result Response Fault
