@@ -4,4 +4,4 @@
 #[cfg(test)]
 mod conversations;
 #[cfg(test)]
-mod refusals;
+mod refused;
