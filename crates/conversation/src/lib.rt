@@ -35,6 +35,7 @@ fn run<O: Ordering, R: ClashRule>(
         exchanges.new
         (store check.new (O.Ordering.meaning ordering.new) rows.new) }
 {
+    // As the loop of orderings' `inquire`: one function for both would take a closure, and need its clauses.
     for exchange in exchanges.iter_mut() {
         exchange.reply = check.put(ordering, rule, rows, exchange.call);
     }

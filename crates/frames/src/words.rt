@@ -10,6 +10,7 @@ use std::fmt;
 #[derive(Clone, Copy, Debug, PartialEq, Eq)]
 pub enum Frame {
     Header { rule: u8, records: u16 },
+    // Two kinds of lines, and no kind of scope: lines know no orderings.
     OpenTask,
     OpenFinish,
     Close,

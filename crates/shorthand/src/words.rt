@@ -9,6 +9,7 @@ use std::fmt;
 /// One action of a plan.
 #[derive(Clone, Copy, Debug, PartialEq, Eq)]
 pub enum Action {
+    // Two letters, and no kind of scope: plans as text know no orderings.
     OpenTask,
     OpenFinish,
     /// Closes the innermost scope.

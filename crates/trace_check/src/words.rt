@@ -10,6 +10,7 @@ use std::error::Error;
 use std::fmt;
 
 /// What is put to a check.
+// The requests to an ordering, and accesses; so `Reply`, of responses: a case that held them would wrap each twice.
 #[derive(Clone, Copy, Debug, PartialEq, Eq)]
 pub enum Call {
     Open(Kind),
@@ -105,6 +106,7 @@ pub enum Reply {
     /// The number of the scope closed.
     Closed(u32),
     /// What an access found: none, or a clash by the event numbers of the two, the earlier first.
+    // A tuple: the pair is shown as it is, and no call takes it apart.
     Found(Option<(u32, u32)>),
     /// What the ordering told.
     Told(Told),

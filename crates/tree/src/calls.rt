@@ -56,7 +56,7 @@ impl Tree<'_> {
         }
     }
 
-    // The node of a scope begun.
+    // The node of a scope begun. As `at` of the bags' table: one for both would be public, and no public function has a `requires`.
     pub(crate) fn node(&self, n: u32) -> Node
         requires { n < self.now.scopes.begun }
         ensures { result ≡ node_at (entries self.now.nodes) n }

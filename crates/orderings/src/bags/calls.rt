@@ -60,6 +60,7 @@ impl Bags<'_> {
     {
         let mut at = x;
         for _ in 0..16u32 {
+            // Read from the table itself, as in `word_of`.
             let parent = self.store.lent[at as usize - 1].parent;
             if parent == at {
                 return at;

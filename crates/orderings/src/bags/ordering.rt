@@ -45,6 +45,7 @@ impl<'t> Ordering for Bags<'t> {
         Ok(number)
     }
 
+    // What only hands on is alike in bags and tree: the trait has no fields to hand on to.
     fn ask(&mut self, task: u32) -> Result<Word, Fault> {
         self.word_of(task)
     }

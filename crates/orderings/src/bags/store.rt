@@ -12,7 +12,7 @@ use crate::words::Kind;
 // What a call leaves as it was, frames and length, relates two tables: no invariant of one can say it.
 impl Table<'_, Entry> {
     /// The entry of a number that has one.
-    // `entry` for a caller who knows so, as `Tree::node` is for nodes: main's is no answer then.
+    // As `Tree::node`: one for both would be public, and no public function has a `requires`.
     pub(crate) fn at(&self, n: u32) -> Entry
         requires { n ≤ length self.now.lent.now }
         ensures { result ≡ entry_at (entries self.now) n }
