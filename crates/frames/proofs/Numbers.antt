@@ -1,9 +1,9 @@
 -- Digits say their number, and a number is written by its digits.
-use Rattle.std.proofs.Common.{◌≡◌, ℕ, zero, suc, ◌+◌, ◌*◌, ◌/◌, ◌%◌, ◌^◌, ◌<◌, ◌≤◌, true, List, [], ◌∷◌, ◌++◌, length, get_or, take, drop, sym, refl, ap, ◌∙◌, subst, mod-lt, mul_assoc, div-lt_iff_lt-mul, add-mul, pow-suc, div-add-mod', arith, lit<, length-append, length-drop, length-take, length-take-le}
+use Rattle.std.proofs.Common.{◌≡◌, ℕ, zero, suc, ◌+◌, ◌*◌, ◌/◌, ◌%◌, ◌^◌, ◌<◌, ◌≤◌, true, List, [], ◌∷◌, ◌++◌, length, get_or, take, drop, sym, refl, ap, ◌∙◌, subst, mod-lt, mul_assoc, div-lt_iff_lt-mul, add-mul, pow-suc, div-add-mod', arith, lit<, length-append, length-drop, length-take, length-take-le, take-add, pow-add}
 use native.Mathlib.Nat.{pow-succ', pow-le-pow_right, one-le-pow}
 use lib.Arith.{digits_lt, digits_div, digits_mod}
 use Rattle.std.proofs.lemmas.Bool.Decides.{nat_tests}
-use Rattle.std.proofs.lemmas.List.{take-append-drop, take_more, length_push, drop-drop}
+use Rattle.std.proofs.lemmas.List.{take-append-drop, take_more, drop_more, drop-drop}
 use Rattle.std.proofs.lemmas.List.Elements.{All-nil, All-cons, All-head, All-tail, All-push, All-take, All-drop}
 use Rattle.std.specs.List.{AllPass}
 use Rattle.frames.specs.Digits.{digit_for, digits, is_digit, value, number, said}
@@ -57,12 +57,24 @@ pub all_digits : (w n : ℕ) → n < 16 ^ w → AllPass is_digit (digits w n)
 all_digits zero n h = All-nil IsDigit
 all_digits (suc w) n h = All-cons IsDigit (digit_for (n / 16 ^ w)) (digits w (n % 16 ^ w)) (digit_is (n / 16 ^ w) (first_lt w n h)) (all_digits w (n % 16 ^ w) (mod-lt n (pow_pos w)))
 
--- Digits one by one.
+-- Digits in two parts, and one by one.
+number_join : (xs ys : List ℕ) → number (xs ++ ys) ≡ number xs * 16 ^ length ys + number ys
+number_join [] ys = omega arith
+number_join (x ∷ xs) ys =
+    let p : 16 ^ (length xs + length ys) ≡ 16 ^ length xs * 16 ^ length ys = pow-add 16 (length xs) (length ys) in
+    rw (length-append xs ys, p, number_join xs ys)
+    (omega (arith, mul_assoc (value x) (16 ^ length xs) (16 ^ length ys), add-mul (value x * 16 ^ length xs) (number xs) (16 ^ length ys)))
+
+pub said_join : (w v from : ℕ) (ds : List ℕ) → from + (w + v) ≤ length ds → said (w + v) from ds ≡ said w from ds * 16 ^ v + said v (from + w) ds
+said_join w v from ds h =
+    let long : length (take v (drop (from + w) ds)) ≡ v = length-take-le v (drop (from + w) ds) (simp length-drop (omega arith)) in
+    rw (take-add w v (drop from ds), drop-drop w from ds, number_join, long)
+
+pub said_one : (from : ℕ) (ds : List ℕ) → from < length ds → said 1 from ds ≡ value (get_or ds from 0)
+said_one from ds h = ap (λ (xs : List ℕ). number (take 1 xs)) (drop_more ds from 0 h) ∙ omega arith
+
 number_push : (ds : List ℕ) (d : ℕ) → number (ds ++ d ∷ []) ≡ number ds * 16 + value d
-number_push [] d = omega arith
-number_push (x ∷ xs) d =
-    let long : length (xs ++ d ∷ []) ≡ suc (length xs) = omega (arith, length_push xs d) in
-    rw (long, pow-suc 16 (length xs), number_push xs d) (omega (arith, mul_assoc (value x) (16 ^ length xs) 16, add-mul (value x * 16 ^ length xs) (number xs) 16))
+number_push ds d = number_join ds (d ∷ []) ∙ omega arith
 
 -- what the first digits say
 pub part_lt : (ds : List ℕ) (i : ℕ) → number (take i ds) < 16 ^ length ds

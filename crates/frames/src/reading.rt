@@ -41,6 +41,8 @@ fn leading_digits(bytes: &[u8]) -> usize
 }
 
 // What the digits of a line say.
+// Always inlined: else the frame is packed into a word here, and taken apart again by a caller that matches on it.
+#[inline(always)]
 fn frame_of(digits: &[u8]) -> Result<Frame, LineFault>
     requires { 2 ≤ length digits.now }
     ensures { result ≡ framed digits.now }

@@ -21,6 +21,10 @@ pub table_set : (m : Entry) (t : List Entry) (i : ℕ) (f : Entry → Entry) →
 table_set m t zero f h = absurd (omega arith)
 table_set m t (suc i) f h = let e : suc i - 1 ≡ i = omega arith in rw e
 
+pub main_set : (m : Entry) (t : List Entry) (i : ℕ) (f : Entry → Entry) → i ≡ 0 → f m ∷ t ≡ set (m ∷ t) i (f (entry_at (m ∷ t) i))
+main_set m t zero f e = refl
+main_set m t (suc i) f e = absurd (omega arith)
+
 -- the heads of a scope's bags
 pub head_serial : (es : List Entry) (i : ℕ) → head es (2 * i) ≡ (entry_at es i).serial
 head_serial es i = let h : 2 * i / 2 ≡ i = omega arith in cond-true (eqb (2 * i % 2) 0) _ _ (eq-eqb (2 * i % 2) 0 (omega arith)) ∙ ap (λ (k : ℕ). (entry_at es k).serial) h

@@ -1,5 +1,5 @@
 -- Forests linked by rank: the search for a root ends in time, and what a new element and a link change.
-use Rattle.std.proofs.Common.{◌≡◌, ℕ, zero, suc, ◌+◌, ◌^◌, ◌<◌, ◌≤◌, cond, eqb, ◌≢◌, ◌⊎◌, sym, refl, ap, ◌∙◌, subst, ⊎_elim, arith, pow_pos, pow_mono}
+use Rattle.std.proofs.Common.{◌≡◌, ℕ, zero, suc, ◌+◌, ◌^◌, ◌<◌, ◌≤◌, cond, eqb, ◌≢◌, ◌⊎◌, sym, refl, ap, ◌∙◌, subst, inl, inr, ⊎_elim, arith, pow_pos, pow_mono}
 use native.Mathlib.Nat.{two-pow-succ}
 use Rattle.std.proofs.lemmas.Bool.{eq-eqb, ne_eqb, lt-ltb, le-ltb, cases_eq, cases_lt}
 use Rattle.std.proofs.lemmas.Bool.Decides.{nat_tests}
@@ -185,6 +185,14 @@ module _ (f g : Forest) (l w : ℕ) (K : Links f g l w) where
         (λ e. climbs moved (as_before r e ∙ v.top) 16 (omega arith) ∙ sym (upd_other (λ r. r) l w r e))
         (cases_eq r l)
 
+  links_tops : (x : ℕ) → g.parent x ≡ x → (f.parent x ≡ x) × (x ≢ l)
+  links_tops x top =
+      let no : x ≢ l = λ e. K.apart (sym e ∙ sym top ∙ to_winner x e) in
+      (sym (as_before x no) ∙ top, no)
+
+or_else : {P : Type 0} (x y : ℕ) → (x ≢ y → P) → (x ≡ y) ⊎ P
+or_else x y p = ⊎_elim inl (λ e. inr (p e)) (cases_eq x y)
+
 module _ (f : Forest) (n : ℕ) (G : Grown f n) (small : n ≤ 65536) where
   module _ (a b : ℕ) (la : a < n) (lb : b < n) (ta : f.parent a ≡ a) (tb : f.parent b ≡ b) (apart : a ≡ b → a ≡ 0) where
     under_links : 0 < a → 0 < b → f.rank a < f.rank b → Links f (under f a b) a b
@@ -259,3 +267,14 @@ module _ (f : Forest) (n : ℕ) (G : Grown f n) (small : n ≤ 65536) where
         (λ e. grind (arith, nat_tests))
         (λ g K. links_root f g a b K n G la lb small x pos h ∙ grind (arith, nat_tests))
         (λ g K. links_root f g b a K n G lb la small x pos h ∙ grind (arith, nat_tests))
+
+    -- a root of the linked forest was one before; it is the winner or none of the two
+    pub linked_tops : (x : ℕ) → 0 < x → x < n → (linked f a b).parent x ≡ x
+        → (f.parent x ≡ x) × ((x ≡ winner f a b) ⊎ ((x ≢ a) × (x ≢ b)))
+    linked_tops x pos h =
+        by_link
+        (λ g w. g.parent x ≡ x → (f.parent x ≡ x) × ((x ≡ w) ⊎ ((x ≢ a) × (x ≢ b))))
+        (λ e top. (top, or_else x b (λ no. (omega arith, no))))
+        (λ e top. (top, or_else x a (λ no. (no, omega arith))))
+        (λ g K top. let was = links_tops f g a b K x top in (was.0, or_else x b (λ no. (was.1, no))))
+        (λ g K top. let was = links_tops f g b a K x top in (was.0, or_else x a (λ no. (no, was.1))))

@@ -36,7 +36,7 @@ one_less : (n j b : ℕ) → j ≢ 0 → j + b ≡ n + 1 → (j - 1) + suc b ≡
 one_less n j b ne e = omega arith
 
 module _ (n : ℕ) (h : History) (m : Meaning) (M : Means n h m) where
-  means_task : m.left ≢ 0 → Means n (open_task ∷ h) (with_scope Task m)
+  pub means_task : m.left ≢ 0 → Means n (open_task ∷ h) (with_scope Task m)
   means_task some = record {
     opened = ap (λ (k : ℕ). task k ∷ m.opened) M.count ∙ ap (λ (l : List Scope). task (begun h) ∷ l) M.opened;
     count = let e = length_push m.begun (task_at (before (length m.begun))) in let c = M.count in omega arith;
@@ -48,7 +48,7 @@ module _ (n : ℕ) (h : History) (m : Meaning) (M : Means n h m) where
       go k true e = rw (e, e) (ap (λ (j : ℕ). Some (task_at (before j))) (sym (eqb-true k (begun h) e)))
       go k false e = rw e (M.scope k ∙ as_same h (open_task ∷ h) k (kind_of h k) (rw e))
 
-  means_finish : m.left ≢ 0 → Means n (open_finish ∷ h) (with_scope Finish m)
+  pub means_finish : m.left ≢ 0 → Means n (open_finish ∷ h) (with_scope Finish m)
   means_finish some = record {
     opened = ap (λ (k : ℕ). finish k ∷ m.opened) M.count ∙ ap (λ (l : List Scope). finish (begun h) ∷ l) M.opened;
     count = let e = length_push m.begun a_finish in let c = M.count in omega arith;

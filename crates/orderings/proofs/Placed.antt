@@ -2,15 +2,15 @@
 use Rattle.std.specs.Bool.{then_some}
 use Rattle.std.proofs.Common.{◌≡◌, ℕ, ◌+◌, ◌-◌, ◌<◌, ◌≤◌, min, Bool, true, false, ltb, ltb-true, ltb-false, eqb, leb, ◌≢◌, List, [], ◌∷◌, ◌++◌, length, Some, None, Ok, Err, sym, refl, ap, ◌∙◌, ⊎_elim, arith}
 use mathlib.Core.List.{map-map}
-use Rattle.std.proofs.lemmas.Bool.{ne_eqb, cond-false, lt-leb}
+use Rattle.std.proofs.lemmas.Bool.{ne_eqb, cond-true, cond-false, lt-leb, le-leb}
 use Rattle.std.proofs.lemmas.List.{length-map}
 use Rattle.std.proofs.lemmas.List.FromFn.{map-range_with_len_more, length-map-range_with_len}
 use Rattle.std.specs.List.{range_with_len}
 use Rattle.graph.specs.History.{Scope, Place, before, moved, outward}
 use Rattle.orderings.specs.declared.words.Kind.{Kind}
 use Rattle.orderings.specs.declared.words.Kind.TheVariants.{Task, Finish}
-use Rattle.orderings.specs.declared.words.Fault.TheVariants.{NoSuchTask}
-use Rattle.orderings.specs.Meaning.{Begun, task_at, new, scope_as, begun_as, with_scope, opening, after_open, shifted, closing, after_close, word, word_of, asked, kind, kind_at}
+use Rattle.orderings.specs.declared.words.Fault.TheVariants.{NoSuchTask, MainAlone}
+use Rattle.orderings.specs.Meaning.{Meaning, Begun, task_at, new, scope_as, begun_as, with_scope, opening, after_open, shifted, closing, after_close, word, word_of, asked, kind, kind_at}
 use Rattle.orderings.specs.Store.{Frames, chain}
 use Rattle.orderings.specs.Sound.{Framed}
 use Rattle.orderings.specs.Placed.{scopes_begun, placed}
@@ -33,14 +33,14 @@ module _ (fr : Frames) (place : ℕ → Place) (n t : ℕ) where
   pub asked_task : t < n → fr.kind t ≡ Task → asked (scopes_begun fr place n) t ≡ Ok (word (place t))
   asked_task l e = ap word_of (at_some (λ x. begun_at (fr.kind x) (place x)) n t l ∙ ap (λ (k : Kind). Some (begun_at k (place t))) e)
 
-  kind_some : t < n → kind_at (scopes_begun fr place n) t ≡ Some (fr.kind t)
+  pub kind_some : t < n → kind_at (scopes_begun fr place n) t ≡ Some (fr.kind t)
   kind_some l = ap kind (at_some (λ x. begun_at (fr.kind x) (place x)) n t l) ∙ same (fr.kind t)
     where
       same : (k : Kind) → kind (Some (begun_at k (place t))) ≡ Some k
       same Task = refl
       same Finish = refl
 
-  kind_none : n ≤ t → kind_at (scopes_begun fr place n) t ≡ None
+  pub kind_none : n ≤ t → kind_at (scopes_begun fr place n) t ≡ None
   kind_none l = ap kind (at_none (λ x. begun_at (fr.kind x) (place x)) n t l)
 
   -- the kind of a number, told where a scope of that number was begun
@@ -69,6 +69,10 @@ placed_open fr gr place place' cap n s k w inside F stay own =
     fresh : (k : Kind) → begun_at k (before n) ≡ begun_as k n
     fresh Task = refl
     fresh Finish = refl
+
+-- with main alone a close is refused
+pub closing_alone : (m : Meaning) → length m.opened ≤ 1 → (closing m ≡ Err MainAlone) × (after_close m ≡ m)
+closing_alone m l = let e = le-leb (length m.opened) 1 l in (cond-true (leb (length m.opened) 1) _ _ e, cond-true (leb (length m.opened) 1) _ _ e)
 
 -- main alone is a new ordering
 pub placed_main : (fr : Frames) (place : ℕ → Place) (cap : ℕ) → fr.kind 0 ≡ Task → place 0 ≡ before 0 → placed fr place cap 1 0 ≡ new (min cap 65535)

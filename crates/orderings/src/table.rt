@@ -2,10 +2,11 @@
 ghost use Rattle.std.specs.Prelude.{◌≡◌, ◌∷◌, slice_index_or, slice_set};
 
 /// Main's entry, which is number 0, and those of the caller's table, whose numbers go on from there.
+// Its parts are public: an ordering that knows that a number has an entry goes past the tests of `entry` and `set_entry`.
 #[derive(Drop)]
 pub struct Table<'t, E> {
-    pub(crate) main: E,
-    pub(crate) lent: &'t mut [E],
+    pub main: E,
+    pub lent: &'t mut [E],
 }
 
 impl<'t, E: Copy> Table<'t, E> {

@@ -124,12 +124,12 @@ actions_back (a ∷ rest) h at =
 named_back : (l : List ℕ) (actions : List Action) → AllFit actions → drop 5 l ≡ 32 ∷ actions_text actions → said 5 0 l ≡ record { actions = actions; fault = None }
 named_back l actions h e = said_on 5 0 l ∙ rw e (step_blank 5 32 (actions_text actions) refl ∙ actions_back actions h 6)
 
-reading_back : (rule : Rule) (actions : List Action) → AllFit actions → reading (written rule actions) ≡ record { actions = actions; fault = None }
+pub reading_back : (rule : Rule) (actions : List Action) → AllFit actions → reading (written rule actions) ≡ record { actions = actions; fault = None }
 reading_back (Plain r) actions h = named_back (written (Plain r) actions) actions h refl
 reading_back (Depot r) actions h = named_back (written (Depot r) actions) actions h refl
 reading_back (Field r) actions h = named_back (written (Field r) actions) actions h refl
 
-heading_back : (rule : Rule) (actions : List Action) → (heading 0 (written rule actions)).0 ≡ rule
+pub heading_back : (rule : Rule) (actions : List Action) → (heading 0 (written rule actions)).0 ≡ rule
 heading_back (Plain _) actions = refl
 heading_back (Depot _) actions = refl
 heading_back (Field _) actions = refl

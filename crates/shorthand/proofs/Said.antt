@@ -11,7 +11,7 @@ abbrev pub ahead : List Action → Reading → Reading
 ahead done r = record { actions = done ++ r.actions; fault = r.fault }
 
 -- where nothing is passed over, it does not matter from where
-said_here : (from at : ℕ) (l : List ℕ) → from ≤ at → said from at l ≡ said at at l
+pub said_here : (from at : ℕ) (l : List ℕ) → from ≤ at → said from at l ≡ said at at l
 said_here from at [] h = refl
 said_here from at (c ∷ l) h =
     let g : said from (at + 1) l ≡ said at (at + 1) l = said_here from (at + 1) l (omega arith) ∙ sym (said_here at (at + 1) l (omega arith)) in

@@ -34,14 +34,16 @@ impl Reader<'_> {
         self.number().map(|record| Action::Access(class, record))
     }
 
-    /// Reads an access by its class.
-    fn class_access(&mut self) -> Result<Action, Misread>
-        ensures answer { placed result self.new.at ≡ class_at self.old.at (first self.old) (rest self.old) }
+    /// Reads an access by its class, which begins with the character `first`.
+    fn class_access(&mut self, first: u8) -> Result<Action, Misread>
+        requires { self.old.at < length self.old.text.now }
+        ensures answer { placed result self.new.at ≡ class_at self.old.at «first» (rest self.old) }
         ensures behind { Behind self.old self.new result }
     {
-        let Some(high) = self.next_as(hex_value) else {
+        let Some(high) = hex_value(first) else {
             return Err(self.misread(Reason::NoAction));
         };
+        self.at += 1;
         let Some(low) = self.next_as(hex_value) else {
             return Err(self.misread(Reason::NoDigit));
         };
@@ -70,7 +72,7 @@ impl Reader<'_> {
             b'?' => self.number().map(Action::Ask),
             _ => {
                 *self = start;
-                self.class_access()
+                self.class_access(first)
             }
         }
     }

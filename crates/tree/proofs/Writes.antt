@@ -7,7 +7,7 @@ use Rattle.orderings.specs.Meaning.{with_scope, after_close}
 use Rattle.orderings.specs.Store.{Frames}
 use Rattle.orderings.specs.Placed.{placed}
 use Rattle.orderings.specs.Scopes.{task_within}
-use Rattle.tree.specs.Nodes.{no_node, node_at, shape, Marks, marks, jump_under, SoundTree}
+use Rattle.tree.specs.Nodes.{no_node, node_at, shut, shape, Marks, marks, jump_under, SoundTree}
 use Rattle.tree.specs.ProgramTree.{place_of}
 use Rattle.orderings.proofs.Tables.{here, there, column_kept}
 use Rattle.orderings.proofs.FramedMore.{FramedMore}
@@ -51,10 +51,6 @@ module _ (es : List Node) (n s count : ℕ) (e : Node) (room : n < length es) (i
     placed_opened size cap same =
         (λ j. placed (shape (put j)) (place_of (shape (put j)) (n + 1) n) (same j) (n + 1) n)
         ∙ placed_new (shape es) _ (marks es) _ n s count e.kind o inside framed_more marked_more cap
-
--- a node no longer live
-abbrev pub shut : Node → Node
-shut e = record { kind = e.kind; live = false; parent = e.parent; within = e.within; depth = e.depth; jump = e.jump }
 
 module _ (es : List Node) (s : ℕ) (room : s < length es) where
   live_off : ◌≡◌ {A = ℕ → Bool} (λ i. (node_at (set es s (shut (node_at es s))) i).live) (λ i. cond (eqb i s) false (node_at es i).live)

@@ -13,6 +13,10 @@ no_node = record { kind = Task; live = false; parent = 0; within = 0; depth = 0;
 abbrev pub node_at : List Node → ℕ → Node
 node_at es n = slice_index_or es n no_node
 
+-- a node no longer live
+abbrev pub shut : Node → Node
+shut e = record e { live = false }
+
 -- what the nodes say of the scopes: the scope next outward is the parent
 abbrev pub shape : List Node → Frames
 shape es = record { kind = λ n. (node_at es n).kind; outward = λ n. (node_at es n).parent; within = λ n. (node_at es n).within }

@@ -61,7 +61,12 @@ impl Tree<'_> {
         requires { n < self.now.scopes.begun }
         ensures { result ≡ node_at (entries self.now.nodes) n }
     {
-        self.nodes.entry(n)
+        // Read past `entry`, whose test for a number with no node is not needed here.
+        if n == 0 {
+            self.nodes.main
+        } else {
+            self.nodes.lent[n as usize - 1]
+        }
     }
 
     // The child, on the side of the closed scope x, of its least common ancestor with the innermost open scope. The search goes up

@@ -9,6 +9,7 @@ use orderings::{Scopes, Table};
 
 mod calls;
 mod node;
+mod nodes;
 mod ordering;
 
 pub use node::Node;

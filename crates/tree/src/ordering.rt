@@ -4,6 +4,7 @@ ghost use Rattle.tree.specs.ProgramTree.{meaning as meaning_of};
 
 use crate::Tree;
 use crate::node::Node;
+use crate::nodes::{set_node, shut};
 use orderings::{Fault, Kind, Ordering, Word};
 
 impl<'t> Ordering for Tree<'t> {
@@ -20,7 +21,8 @@ impl<'t> Ordering for Tree<'t> {
         let above = self.node(parent);
         let within = scopes.within(kind, above.within);
         let jump = self.next_jump();
-        self.nodes.set_entry(
+        set_node(
+            &mut self.nodes,
             number,
             Node {
                 kind,
@@ -39,13 +41,7 @@ impl<'t> Ordering for Tree<'t> {
         let number = self.scopes.innermost();
         let node = self.node(number);
         let scopes = self.scopes.closed(node.parent)?;
-        self.nodes.set_entry(
-            number,
-            Node {
-                live: false,
-                ..node
-            },
-        );
+        shut(&mut self.nodes, number);
         self.scopes = scopes;
         Ok(number)
     }
@@ -66,7 +62,12 @@ impl<'t> Ordering for Tree<'t> {
 
     fn kind_of(&self, number: u32) -> Option<Kind> {
         // In bags and tree alike, since the table knows no entry's kind.
-        (number < self.scopes.begun()).then_some(self.nodes.entry(number).kind)
+        // Not by `then_some`, which reads the node of any number.
+        if number < self.scopes.begun() {
+            Some(self.nodes.entry(number).kind)
+        } else {
+            None
+        }
     }
 
     fn begun(&self) -> u32 {

@@ -7,6 +7,7 @@ use Rattle.graph.specs.History.{History, scopes, innermost_task}
 use Rattle.orderings.specs.declared.questions.Question.TheVariants.{InnermostTask}
 use Rattle.orderings.specs.Exchanges.{calls_of}
 use Rattle.orderings.proofs.Turns.{after_append}
+use Rattle.trace_check.specs.declared.words.Call.{Call}
 use Rattle.trace_check.specs.declared.words.Call.TheVariants.{Ask}
 use Rattle.conversation.specs.declared.words.Ending.{Ending}
 use Rattle.conversation.specs.Exchanges.{Exchange}
@@ -63,7 +64,7 @@ each s h (a ∷ rest) (q ∷ x ∷ xs) t e =
     λ j. record { task = task j; action = a; reply = reply j } ∷ more j
 
 -- a plan that was checked was walked through
-walked : (rule : Rule) (actions : List Action) (put xs : List Exchange) (all : List Step) (last : Ending) → Checked rule (calls_of put) xs last → calls_of put ≡ calls_for actions → all ≡ paired actions xs → Walked (walk_setting rule) actions all last
+pub walked : (rule : Rule) (actions : List Action) (put : List Call) (xs : List Exchange) (all : List Step) (last : Ending) → Checked rule put xs last → put ≡ calls_for actions → all ≡ paired actions xs → Walked (walk_setting rule) actions all last
 walked rule actions put xs all last c e f =
     let calls : calls_of xs ≡ calls_for actions = c.calls ∙ e in
     let gone : events xs ≡ events (map exchange all) = left [] actions xs calls ∙ ap (λ (ys : List Step). events (map exchange ys)) (sym f) in
@@ -73,4 +74,4 @@ walked rule actions put xs all last c e f =
 pub walked_in : (rule : Rule) (actions : List Action) (v : Vec Exchange Global) (put xs lent : List Exchange) (all : List Step) (last : Ending) → Checked rule (calls_of put) xs last → put ≡ vec_items v → length put ≡ vec_len v → length xs ≡ length put → lent ≡ vec_items (with_items v xs) → calls_of (vec_items v) ≡ calls_for actions → all ≡ paired actions lent → Walked (walk_setting rule) actions all last
 walked_in rule actions v put xs lent all last c e l k f g h =
     let same : lent ≡ xs = f ∙ with_items_is v xs (k ∙ l) in
-    walked rule actions put xs all last c (ap calls_of e ∙ g) (h ∙ ap (paired actions) same)
+    walked rule actions (calls_of put) xs all last c (ap calls_of e ∙ g) (h ∙ ap (paired actions) same)

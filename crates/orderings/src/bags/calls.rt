@@ -38,7 +38,7 @@ impl Bags<'_> {
         if task == 0 {
             return Ok(Word::Before);
         }
-        // The search reads the table itself: by `at`, a question took more than twice the instructions.
+        // The search reads the table itself: by `entry`, a question took more than twice the instructions.
         let kind = self.store.lent[task as usize - 1].kind;
         match kind {
             Kind::Finish => Err(Fault::NoSuchTask),

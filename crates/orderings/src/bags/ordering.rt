@@ -18,8 +18,8 @@ impl<'t> Ordering for Bags<'t> {
         let outward = self.scopes.innermost();
         let scopes = self.scopes.opened()?;
         let number = scopes.innermost();
-        let within = scopes.within(kind, self.store.at(outward).within);
-        self.store.set_entry(
+        let within = self.store.innermost_task(kind, number, outward);
+        self.store.set_at(
             number,
             Entry {
                 kind,
@@ -61,7 +61,12 @@ impl<'t> Ordering for Bags<'t> {
 
     fn kind_of(&self, number: u32) -> Option<Kind> {
         // In bags and tree alike, since the table knows no entry's kind.
-        (number < self.scopes.begun()).then_some(self.store.entry(number).kind)
+        // Not by `then_some`, which reads the entry of any number.
+        if number < self.scopes.begun() {
+            Some(self.store.entry(number).kind)
+        } else {
+            None
+        }
     }
 
     fn begun(&self) -> u32 {

@@ -1,8 +1,9 @@
 //! The forest of bags in a table.
-ghost use Rattle.std.specs.Prelude.{◌≡◌, ◌/◌, ◌<◌, ◌≤◌, length};
+ghost use Rattle.std.specs.Prelude.{◌≡◌, ◌/◌, ◌<◌, ◌≤◌, length, slice_set};
 ghost use Rattle.orderings.specs.Forest.{winner};
 ghost use Rattle.orderings.specs.Table.{entries};
-ghost use Rattle.orderings.specs.Store.{entry_at, frames, contents, forest, joined, poured, poured_by, Linkable};
+ghost use Rattle.orderings.specs.Store.{entry_at, frames, contents, forest, with_head, joined, poured, poured_by, Linkable};
+ghost use Rattle.orderings.specs.Scopes.{task_within};
 ghost use Rattle.orderings.specs.Sound.{Closable};
 
 use crate::bags::entry::Entry;
@@ -17,7 +18,46 @@ impl Table<'_, Entry> {
         requires { n ≤ length self.now.lent.now }
         ensures { result ≡ entry_at (entries self.now) n }
     {
-        self.entry(n)
+        // Read past `entry`, whose test for a number with no entry is not needed here.
+        if n == 0 {
+            self.main
+        } else {
+            self.lent[n as usize - 1]
+        }
+    }
+
+    /// The innermost task at a new scope, which is of that kind and number and lies within the scope `outward`.
+    // As `Scopes::within`, but a task's scope reads no entry.
+    pub(crate) fn innermost_task(&self, kind: Kind, number: u32, outward: u32) -> u32
+        requires { outward ≤ length self.now.lent.now }
+        ensures { result ≡ task_within kind number (entry_at (entries self.now) outward).within }
+    {
+        match kind {
+            Kind::Task => number,
+            Kind::Finish => self.at(outward).within,
+        }
+    }
+
+    /// Writes an entry of the lent table, past `set_entry` as in `at`.
+    pub(crate) fn set_at(&mut self, n: u32, entry: Entry)
+        requires { (0 < n) × (n ≤ length self.old.lent.now) }
+        ensures { entries self.new ≡ slice_set (entries self.old) n entry }
+    {
+        self.lent[n as usize - 1] = entry;
+    }
+
+    /// Makes an element the root of a bag.
+    // One field is written, where `set_entry` would write whole entries.
+    fn set_head(&mut self, bag: u32, root: u32)
+        requires { bag / 2 ≤ length self.old.lent.now }
+        ensures { entries self.new ≡ slice_set (entries self.old) (bag / 2) (with_head bag root (entry_at (entries self.old) (bag / 2))) }
+    {
+        let scope = bag / 2;
+        if scope == 0 {
+            self.main.set_head(bag, root);
+        } else {
+            self.lent[scope as usize - 1].set_head(bag, root);
+        }
     }
 
     /// Links two roots, the one of lower rank under the other, and gives the one that stays a root. 0 stands for none.
@@ -62,9 +102,7 @@ impl Table<'_, Entry> {
         let scope = bag / 2;
         let root = self.link(self.at(scope).head(bag), x);
         self.lent[root as usize - 1].bag = bag;
-        let mut entry = self.at(scope);
-        entry.set_head(bag, root);
-        self.set_entry(scope, entry);
+        self.set_head(bag, root);
     }
 
     /// Pours out the bags of the scope s, which closes.

@@ -67,13 +67,24 @@ overflow_add-above c =
     let inside = t.scopes.innermost in
     omega arith
 
+pub set_node-requires : goal.set_node-requires
+set_node-requires c =
+    let t = c.args.self.now in
+    let o = c.in_ok-scopes.ensures in
+    let number = c.innermost-number.ensures ∙ o.inner in
+    let numbers = t.numbers in
+    let free = o.free in
+    let some = t.scopes.some in
+    let fewer = t.scopes.fewer in
+    (omega arith, omega arith)
+
 pub invariant_of-self : goal.invariant_of-self
 invariant_of-self c =
     let t = c.args.self.now in
     let o = c.in_ok-scopes.ensures in
     record {
-      numbers = o.numbers ∙ t.numbers ∙ ap (λ (l : ℕ). min l 65535) (sym (kept_size t.nodes c.set_entry.new.self _ _ c.set_entry.ensures));
-      sound = ∣ sound_open t c.args.kind c.in_ok-scopes.scopes o _ _ _ _ c.node-above.result c.innermost-number.ensures c.innermost-parent.ensures c.node-above.ensures c.within-within.ensures c.next_jump-jump.ensures _ c.set_entry.ensures ∣₁;
+      numbers = o.numbers ∙ t.numbers ∙ ap (λ (l : ℕ). min l 65535) (sym (kept_size t.nodes c.set_node.new.nodes _ _ c.set_node.ensures));
+      sound = ∣ sound_open t c.args.kind c.in_ok-scopes.scopes o _ _ _ _ c.node-above.result c.innermost-number.ensures c.innermost-parent.ensures c.node-above.ensures c.within-within.ensures c.next_jump-jump.ensures _ c.set_node.ensures ∣₁;
     }
 
 pub returns-clause-answer : goal.returns-clause-answer
@@ -87,4 +98,4 @@ returns-clause-answer c = λ _.
 pub returns-clause-after : goal.returns-clause-after
 returns-clause-after c = λ _.
     let t = c.args.self.now in
-    meaning_open t c.args.kind c.in_ok-scopes.scopes c.in_ok-scopes.ensures _ _ _ _ c.node-above.result c.innermost-number.ensures c.innermost-parent.ensures c.node-above.ensures c.within-within.ensures c.next_jump-jump.ensures _ c.set_entry.ensures _ (kept_size t.nodes c.set_entry.new.self _ _ c.set_entry.ensures)
+    meaning_open t c.args.kind c.in_ok-scopes.scopes c.in_ok-scopes.ensures _ _ _ _ c.node-above.result c.innermost-number.ensures c.innermost-parent.ensures c.node-above.ensures c.within-within.ensures c.next_jump-jump.ensures _ c.set_node.ensures _ (kept_size t.nodes c.set_node.new.nodes _ _ c.set_node.ensures)

@@ -17,8 +17,8 @@ use Rattle.orderings.proofs.Tables.{kept_size}
 use Rattle.orderings.proofs.bags.ordering.BagsOrdering.open.Goals as goal
 
 -- the entry of the new scope, in the words of the scopes before
-module _ (b : Bags) (k : Kind) (now : Scopes) (o : Opened b.scopes now) (number outward within : ℕ) (above : Entry) (number-is : number ≡ now.inner) (outward-is : outward ≡ b.scopes.inner) (above-is : above ≡ entry_at (entries b.store) outward)
-    (within-is : within ≡ task_within k now.inner above.within) where
+module _ (b : Bags) (k : Kind) (now : Scopes) (o : Opened b.scopes now) (number outward within : ℕ) (number-is : number ≡ now.inner) (outward-is : outward ≡ b.scopes.inner)
+    (within-is : within ≡ task_within k number (entry_at (entries b.store) outward).within) where
   abbrev n : ℕ
   n = b.scopes.begun
 
@@ -29,7 +29,7 @@ module _ (b : Bags) (k : Kind) (now : Scopes) (o : Opened b.scopes now) (number 
   next = number-is ∙ o.inner
 
   way : within ≡ task_within k n ((frames es).within b.scopes.inner)
-  way = within-is ∙ ap (λ (e : Entry). task_within k now.inner e.within) above-is ∙ (λ j. task_within k (o.inner j) ((frames es).within (outward-is j)))
+  way = within-is ∙ (λ j. task_within k (next j) ((frames es).within (outward-is j)))
 
   free : n ≤ min (length b.store.lent.now) 65535
   free = let numbers = b.numbers in let free = o.free in omega arith
@@ -50,13 +50,24 @@ module _ (b : Bags) (k : Kind) (now : Scopes) (o : Opened b.scopes now) (number 
         ∙ meaning_opened es n b.scopes.inner within k room b.scopes.count (reveal b.sound) (begun_few b.scopes) b.scopes.innermost way us put size (length b.store.lent.now) e
         ∙ sym (opening_placed (frames es) (place_of (contents es)) (length b.store.lent.now) n b.scopes.inner k free).1
 
+pub set_at-requires : goal.set_at-requires
+set_at-requires c =
+    let b = c.args.self.now in
+    let o = c.in_ok-scopes.ensures in
+    let number = c.innermost-number.ensures ∙ o.inner in
+    let numbers = b.numbers in
+    let free = o.free in
+    let some = b.scopes.some in
+    let fewer = b.scopes.fewer in
+    (omega arith, omega arith)
+
 pub invariant_of-self : goal.invariant_of-self
 invariant_of-self c =
     let b = c.args.self.now in
     let o = c.in_ok-scopes.ensures in
     record {
-      numbers = o.numbers ∙ b.numbers ∙ ap (λ (l : ℕ). min l 65535) (sym (kept_size b.store c.set_entry.new.self _ _ c.set_entry.ensures));
-      sound = ∣ sound_open b c.args.kind c.in_ok-scopes.scopes o _ _ _ c.at.result c.innermost-number.ensures c.innermost-outward.ensures c.at.ensures c.within-within.ensures _ c.set_entry.ensures ∣₁;
+      numbers = o.numbers ∙ b.numbers ∙ ap (λ (l : ℕ). min l 65535) (sym (kept_size b.store c.set_at.new.self _ _ c.set_at.ensures));
+      sound = ∣ sound_open b c.args.kind c.in_ok-scopes.scopes o _ _ _ c.innermost-number.ensures c.innermost-outward.ensures c.innermost_task-within.ensures _ c.set_at.ensures ∣₁;
     }
 
 pub returns-clause-answer : goal.returns-clause-answer
@@ -70,4 +81,4 @@ pub returns-clause-after : goal.returns-clause-after
 returns-clause-after c = λ _.
     let b = c.args.self.now in
     let o = c.in_ok-scopes.ensures in
-    meaning_open b c.args.kind c.in_ok-scopes.scopes o _ _ _ c.at.result c.innermost-number.ensures c.innermost-outward.ensures c.at.ensures c.within-within.ensures _ c.set_entry.ensures _ (kept_size b.store c.set_entry.new.self _ _ c.set_entry.ensures)
+    meaning_open b c.args.kind c.in_ok-scopes.scopes o _ _ _ c.innermost-number.ensures c.innermost-outward.ensures c.innermost_task-within.ensures _ c.set_at.ensures _ (kept_size b.store c.set_at.new.self _ _ c.set_at.ensures)
